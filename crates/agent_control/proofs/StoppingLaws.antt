@@ -1,10 +1,10 @@
 -- What an agent's last call found, after the calls before it.
 use Rattle.std.proofs.Common.{◌≡◌, ℕ, ◌+◌, List, [], ◌∷◌, length, ◌<◌, refl, sym, ap, ◌∙◌, inl, inr, Some, subst}
 use Rattle.std.specs.Prelude.{◌⊎◌, ◌==◌, Bool, true, false, slice_get, slice_set}
-use Rattle.list_laws.proofs.Places.{get-within}
+use Rattle.list_laws.proofs.Places.{get_within}
 use Rattle.vchan_rule.specs.Seated.{SeatedEnd}
 use Rattle.vchan_rule.specs.Ends.{IsSameEnd}
-use Rattle.vchan_rule.proofs.EndLaws.{same-end-then}
+use Rattle.vchan_rule.proofs.EndLaws.{same_end_then}
 use Rattle.vchan_packet.specs.Packet.{FailsToSend}
 use Rattle.qrexec_frame.specs.declared.message.Message.{Message}
 use Rattle.qrexec_frame.specs.Messages.{written}
@@ -15,14 +15,14 @@ use Rattle.agent_control.specs.Speaking.{Says, terminated}
 use Rattle.agent_control.specs.Stopping.{FindsLess, EndWaits, TriggerWaits, HoldsBack, NothingIsDue, HasLessRoom, DidNotGo, Stops, AtAnEnd, AtTheLimit, AtATrigger, Unless}
 
 -- a queue with a length has ends in it
-pub some-wait : (len : ℕ) (items : List SessionEnd) (empty : Bool) → len ≡ length items → empty ≡ (len == 0) → empty ≡ false → items ≡ [] → ⊥
-some-wait len items empty long is not none = bad (sym not ∙ (is ∙ ap (λ n. n == 0) (long ∙ ap length none)))
+pub some_wait : (len : ℕ) (items : List SessionEnd) (empty : Bool) → len ≡ length items → empty ≡ (len == 0) → empty ≡ false → items ≡ [] → ⊥
+some_wait len items empty long is not none = bad (sym not ∙ (is ∙ ap (λ n. n == 0) (long ∙ ap length none)))
   where
     bad : false ≡ true → ⊥
     bad e = cc
 
-pub end-waits : (old mid : AgentControl) (e : SessionEnd) (rest : List SessionEnd) → mid.unsaid ≡ old.unsaid → old.unsaid.items ≡ e ∷ rest → FailsToSend (written (terminated e)) old.port.end mid.port.end → EndWaits old mid
-end-waits old mid e rest unsaid first fails = record {
+pub end_waits : (old mid : AgentControl) (e : SessionEnd) (rest : List SessionEnd) → mid.unsaid ≡ old.unsaid → old.unsaid.items ≡ e ∷ rest → FailsToSend (written (terminated e)) old.port.end mid.port.end → EndWaits old mid
+end_waits old mid e rest unsaid first fails = record {
   end = e;
   waiting = rest;
   first = ap (λ u. u.items) unsaid ∙ first;
@@ -32,8 +32,8 @@ end-waits old mid e rest unsaid first fails = record {
 }
 
 -- there was less room than the trigger takes that is due
-pub has-less-room : (old mid : AgentControl) (w : Message) (version len : ℕ) → old.port.version ≡ Some version → Says old mid w false → HasToSayOfLen old.queue version (Some len) → FindsLess old.port.end mid.port.end len → HoldsBack old mid
-has-less-room old mid w version len v says due finds =
+pub has_less_room : (old mid : AgentControl) (w : Message) (version len : ℕ) → old.port.version ≡ Some version → Says old mid w false → HasToSayOfLen old.queue version (Some len) → FindsLess old.port.end mid.port.end len → HoldsBack old mid
+has_less_room old mid w version len v says due finds =
     HasLessRoom (record {
       version = version;
       version_is = says.version ∙ v;
@@ -44,8 +44,8 @@ has-less-room old mid w version len v says due finds =
       finds = subst (FindsLess old.port.end mid.port.end) due.2 finds;
     })
 
-pub did-not-go : (old mid : AgentControl) (w : Message) (version : ℕ) → old.port.version ≡ Some version → Says old mid w false → HasToSay old.queue version (Some w) → FailsToSend (written w) old.port.end mid.port.end → HoldsBack old mid
-did-not-go old mid w version v says due fails =
+pub did_not_go : (old mid : AgentControl) (w : Message) (version : ℕ) → old.port.version ≡ Some version → Says old mid w false → HasToSay old.queue version (Some w) → FailsToSend (written w) old.port.end mid.port.end → HoldsBack old mid
+did_not_go old mid w version v says due fails =
     DidNotGo (record {
       version = version;
       version_is = says.version ∙ v;
@@ -58,47 +58,47 @@ did-not-go old mid w version v says due fails =
 
 -- ---- after other calls
 
-pub waits-after : (a b c : AgentControl) → IsSameEnd a.port.end b.port.end → EndWaits b c → EndWaits a c
-waits-after a b c same w = record {
+pub waits_after : (a b c : AgentControl) → IsSameEnd a.port.end b.port.end → EndWaits b c → EndWaits a c
+waits_after a b c same w = record {
   end = w.end;
   waiting = w.waiting;
   first = w.first;
   before = w.before;
-  same = same-end-then a.port.end b.port.end w.before same w.same;
+  same = same_end_then a.port.end b.port.end w.before same w.same;
   fails = w.fails;
 }
 
 -- the first end that waits is there
-pub waits-on : (a b c : AgentControl) → IsSameEnd a.port.end b.port.end → (b.unsaid.items ≡ [] → ⊥) → (b.unsaid.items ≡ []) ⊎ EndWaits b c → EndWaits a c
-waits-on a b c same some (inl none) = absurd (some none)
-waits-on a b c same some (inr w) = waits-after a b c same w
+pub waits_on : (a b c : AgentControl) → IsSameEnd a.port.end b.port.end → (b.unsaid.items ≡ [] → ⊥) → (b.unsaid.items ≡ []) ⊎ EndWaits b c → EndWaits a c
+waits_on a b c same some (inl none) = absurd (some none)
+waits_on a b c same some (inr w) = waits_after a b c same w
 
-trigger-after : (a b c : AgentControl) (Finds : SeatedEnd → SeatedEnd → Message → Type 0) → IsSameEnd a.port.end b.port.end → TriggerWaits b c Finds → TriggerWaits a c Finds
-trigger-after a b c Finds same w = record {
+trigger_after : (a b c : AgentControl) (Finds : SeatedEnd → SeatedEnd → Message → Type 0) → IsSameEnd a.port.end b.port.end → TriggerWaits b c Finds → TriggerWaits a c Finds
+trigger_after a b c Finds same w = record {
   version = w.version;
   version_is = w.version_is;
   trigger = w.trigger;
   due = w.due;
   before = w.before;
-  same = same-end-then a.port.end b.port.end w.before same w.same;
+  same = same_end_then a.port.end b.port.end w.before same w.same;
   finds = w.finds;
 }
 
-pub holds-after : (a b c : AgentControl) → IsSameEnd a.port.end b.port.end → HoldsBack b c → HoldsBack a c
-holds-after a b c same (NothingIsDue held) = NothingIsDue held
-holds-after a b c same (HasLessRoom w) = HasLessRoom (trigger-after a b c _ same w)
-holds-after a b c same (DidNotGo w) = DidNotGo (trigger-after a b c (λ before now m. FailsToSend (written m) before now) same w)
+pub holds_after : (a b c : AgentControl) → IsSameEnd a.port.end b.port.end → HoldsBack b c → HoldsBack a c
+holds_after a b c same (NothingIsDue held) = NothingIsDue held
+holds_after a b c same (HasLessRoom w) = HasLessRoom (trigger_after a b c _ same w)
+holds_after a b c same (DidNotGo w) = DidNotGo (trigger_after a b c (λ before now m. FailsToSend (written m) before now) same w)
 
-pub stops-after : (calls : ℕ) (a b c : AgentControl) → IsSameEnd a.port.end b.port.end → b.queue.next ≡ a.queue.next → Stops calls b c → Stops calls a c
-stops-after calls a b c same next (AtAnEnd w) = AtAnEnd (waits-after a b c same w)
-stops-after calls a b c same next (AtTheLimit none all) = AtTheLimit none (all ∙ ap (λ n. n + calls) next)
-stops-after calls a b c same next (AtATrigger none holds) = AtATrigger none (holds-after a b c same holds)
+pub stops_after : (calls : ℕ) (a b c : AgentControl) → IsSameEnd a.port.end b.port.end → b.queue.next ≡ a.queue.next → Stops calls b c → Stops calls a c
+stops_after calls a b c same next (AtAnEnd w) = AtAnEnd (waits_after a b c same w)
+stops_after calls a b c same next (AtTheLimit none all) = AtTheLimit none (all ∙ ap (λ n. n + calls) next)
+stops_after calls a b c same next (AtATrigger none holds) = AtATrigger none (holds_after a b c same holds)
 
-pub unless-holds : (done : Bool) (a b c : AgentControl) → IsSameEnd a.port.end b.port.end → Unless done (HoldsBack b c) → Unless done (HoldsBack a c)
-unless-holds true a b c same h = tt
-unless-holds false a b c same h = holds-after a b c same h
+pub unless_holds : (done : Bool) (a b c : AgentControl) → IsSameEnd a.port.end b.port.end → Unless done (HoldsBack b c) → Unless done (HoldsBack a c)
+unless_holds true a b c same h = tt
+unless_holds false a b c same h = holds_after a b c same h
 
 -- the end of a call's session asks for no trigger
-pub ended-next : (old mid : AgentControl) (queue : QueueState) (place : ℕ) → place < length mid.queue.calls → mid.queue ≡ old.queue
+pub ended_next : (old mid : AgentControl) (queue : QueueState) (place : ℕ) → place < length mid.queue.calls → mid.queue ≡ old.queue
     → ((c : Queued) → slice_get mid.queue.calls place ≡ Some c → queue ≡ record mid.queue { calls = slice_set mid.queue.calls place (record c { is_open = false }) }) → queue.next ≡ old.queue.next
-ended-next old mid queue place within same is = let at = get-within mid.queue.calls place within in ap (λ (q : QueueState). q.next) (is at.0 at.1) ∙ ap (λ (q : QueueState). q.next) same
+ended_next old mid queue place within same is = let at = get_within mid.queue.calls place within in ap (λ (q : QueueState). q.next) (is at.0 at.1) ∙ ap (λ (q : QueueState). q.next) same

@@ -26,17 +26,17 @@ use Rattle.task_duties.specs.Agent.Saying.{asking, asking_of, IsOfVersion, Keeps
 use Rattle.task_duties.specs.Agent.Sessions.{CallerOwes, IsService, ServingOwes}
 use Rattle.task_duties.specs.declared.done.CallDone.{CallDone}
 use Rattle.task_duties.specs.Agent.Owes.{AgentOwes, ReportsAnswer, ReportsCall, ReportsServed, ControlOver, heard_by, answers_of}
-use Rattle.task_duties.proofs.ServedLaw.{same-place}
-use Rattle.task_duties.proofs.Places.{same-self, no-control}
+use Rattle.task_duties.proofs.ServedLaw.{same_place}
+use Rattle.task_duties.proofs.Places.{same_self, no_control}
 use Rattle.control_port.specs.Port.{PortState}
 use Rattle.control_port.specs.Talking.{may_hear}
 use Rattle.control_port.specs.declared.talk.Talker.{Talker}
 use Rattle.call_queue.specs.Queue.{Queued, QueueState, asked_as, asked_by}
-use Rattle.call_queue.proofs.AskingLaws.{asks-in-order, asks-within}
+use Rattle.call_queue.proofs.AskingLaws.{asks_in_order, asks_within}
 use Rattle.data_slots.specs.Slots.{Called, Serves, Held, held_at, AreApart}
 use Rattle.data_slots.specs.Done.{AreBack, ReportsCalled, ReportsServes}
 use Rattle.data_slots.specs.declared.done.CallOver.{CallOver}
-use Rattle.data_slots.proofs.AgentLaws.{same-ends, end-there}
+use Rattle.data_slots.proofs.AgentLaws.{same_ends, end_there}
 use Rattle.agent_task.specs.declared.agent.Agent.{Agent}
 use Rattle.agent_task.specs.declared.given.Given.{Given}
 use Rattle.agent_task.specs.declared.task.AgentDone.{AgentDone}
@@ -44,7 +44,7 @@ use Rattle.agent_task.specs.Given.{data_ends, plan_of, ends_of}
 use Rattle.agent_task.specs.Standing.{Stands, IsServedBy, CanGiveUp, called_by, called_of}
 use Rattle.agent_task.specs.Ending.{IsOver, heard_at}
 use Rattle.agent_task.specs.Telling.{heard_on, TellsOf, TellsAll}
-use Rattle.agent_task.proofs.TellingLaws.{is-said, heard-at, tells-once}
+use Rattle.agent_task.proofs.TellingLaws.{is_said, heard_at_lem, tells_once}
 use Rattle.agent_task.specs.Finishing.{call_end_of, call_done_of, call_dones}
 use Rattle.agent_task.specs.Owing.{IsOwed}
 
@@ -63,7 +63,7 @@ are_at : (none : EndView) (ends : List EndAt) → Differ (places_in ends) → Ar
 unfolding end_at
 are_at none [] apart = tt
 are_at none (e ∷ ends) apart =
-    (ap (λ (test : Bool). if test then e.view else end_at none ends e.place) (sym (same-self e.place)), later ends apart.0 (are_at none ends apart.1))
+    (ap (λ (test : Bool). if test then e.view else end_at none ends e.place) (sym (same_self e.place)), later ends apart.0 (are_at none ends apart.1))
   where
     later : (others : List EndAt) → Each (λ q. is_place e.place q ≡ false) (places_in others) → Each (λ o. o.view ≡ end_at none ends o.place) others
         → Each (λ o. o.view ≡ (if is_place e.place o.place then e.view else end_at none ends o.place)) others
@@ -71,30 +71,30 @@ are_at none (e ∷ ends) apart =
     later (o ∷ others) differ are =
         (are.0 ∙ ap (λ (test : Bool). if test then e.view else end_at none ends o.place) (sym differ.0), later others differ.1 are.1)
 
-not-there : (p : PagePlace) (places : List PagePlace) → ((j : ℕ) → slice_get places j ≡ Some p → ⊥) → Each (λ q. is_place p q ≡ false) places
-not-there p [] never = tt
-not-there p (q ∷ places) never = (by_test (is_place p q) refl, not-there p places (λ j is. never (suc j) is))
+not_there : (p : PagePlace) (places : List PagePlace) → ((j : ℕ) → slice_get places j ≡ Some p → ⊥) → Each (λ q. is_place p q ≡ false) places
+not_there p [] never = tt
+not_there p (q ∷ places) never = (by_test (is_place p q) refl, not_there p places (λ j is. never (suc j) is))
   where
     by_test : (b : Bool) → is_place p q ≡ b → is_place p q ≡ false
-    by_test true is = absurd (never 0 (ap (λ (x : PagePlace). Some x) (sym (same-place p q is))))
+    by_test true is = absurd (never 0 (ap (λ (x : PagePlace). Some x) (sym (same_place p q is))))
     by_test false is = is
 
-differ-places : (places : List PagePlace) → AreApart places → Differ places
-differ-places [] apart = tt
-differ-places (p ∷ places) apart =
-    (not-there p places (λ j is. let e : 0 ≡ suc j = apart 0 (suc j) p refl is in absurd (omega arith)), differ-places places (λ i j q a b. let e : suc i ≡ suc j = apart (suc i) (suc j) q a b in omega arith))
+differ_places : (places : List PagePlace) → AreApart places → Differ places
+differ_places [] apart = tt
+differ_places (p ∷ places) apart =
+    (not_there p places (λ j is. let e : 0 ≡ suc j = apart 0 (suc j) p refl is in absurd (omega arith)), differ_places places (λ i j q a b. let e : suc i ≡ suc j = apart (suc i) (suc j) q a b in omega arith))
 
-places-held : (ends : List EndAt) → places_in ends ≡ map (λ h. h.place) (map held_at ends)
-places-held [] = refl
-places-held (e ∷ ends) = ap (λ l. e.place ∷ l) (places-held ends)
+places_held : (ends : List EndAt) → places_in ends ≡ map (λ h. h.place) (map held_at ends)
+places_held [] = refl
+places_held (e ∷ ends) = ap (λ l. e.place ∷ l) (places_held ends)
 
-same-places : (given ends : List EndAt) → map held_at ends ≡ map held_at given → places_in ends ≡ places_in given
-same-places given ends is = places-held ends ∙ ap (λ (l : List Held). map (λ h. h.place) l) is ∙ sym (places-held given)
+same_places : (given ends : List EndAt) → map held_at ends ≡ map held_at given → places_in ends ≡ places_in given
+same_places given ends is = places_held ends ∙ ap (λ (l : List Held). map (λ h. h.place) l) is ∙ sym (places_held given)
 
 -- ---- what it reports
 
-reports-one : (plan : AgentPlan) (end : PagePlace → EndView) (ends : List EndAt) (a : Asked) (over : Option CallOver) → AreEnds end ends → ReportsCalled plan.domain plan.version ends (called_of a) over → ReportsCall plan end a (call_done_of a over)
-reports-one plan end ends a over are h = (refl, by_answer a.call a.answer over h)
+reports_one : (plan : AgentPlan) (end : PagePlace → EndView) (ends : List EndAt) (a : Asked) (over : Option CallOver) → AreEnds end ends → ReportsCalled plan.domain plan.version ends (called_of a) over → ReportsCall plan end a (call_done_of a over)
+reports_one plan end ends a over are h = (refl, by_answer a.call a.answer over h)
   where
     by_answer : (call : CallPlan) (answer : Answer) (over : Option CallOver) → ReportsCalled plan.domain plan.version ends (called_by call answer) over → ReportsAnswer plan end call answer (call_end_of answer over)
     by_answer call Waits None h = tt
@@ -103,18 +103,18 @@ reports-one plan end ends a over are h = (refl, by_answer a.call a.answer over h
     by_answer call IsRefused (Some over) h = absurd h
     by_answer call (At to port) None h = absurd h
     by_answer call (At to port) (Some over) h =
-        (h.1, h.0, end-there ends end (Payload plan.domain to port) (CallerOwes plan.version call.stdin (record { outcome = over.outcome; stdout = over.stdout; stderr = over.stderr; got = over.got })) are h.2)
+        (h.1, h.0, end_there ends end (Payload plan.domain to port) (CallerOwes plan.version call.stdin (record { outcome = over.outcome; stdout = over.stdout; stderr = over.stderr; got = over.got })) are h.2)
 
-reports-all : (plan : AgentPlan) (end : PagePlace → EndView) (ends : List EndAt) (asked : List Asked) (over : List (Option CallOver)) → AreEnds end ends → EachPair (ReportsCalled plan.domain plan.version ends) (map called_of asked) over
+reports_all : (plan : AgentPlan) (end : PagePlace → EndView) (ends : List EndAt) (asked : List Asked) (over : List (Option CallOver)) → AreEnds end ends → EachPair (ReportsCalled plan.domain plan.version ends) (map called_of asked) over
     → EachPair (ReportsCall plan end) asked (call_dones asked over)
-reports-all plan end ends [] [] are h = tt
-reports-all plan end ends [] (o ∷ over) are h = absurd h
-reports-all plan end ends (a ∷ asked) [] are h = absurd h
-reports-all plan end ends (a ∷ asked) (o ∷ over) are h = (reports-one plan end ends a o are h.0, reports-all plan end ends asked over are h.1)
+reports_all plan end ends [] [] are h = tt
+reports_all plan end ends [] (o ∷ over) are h = absurd h
+reports_all plan end ends (a ∷ asked) [] are h = absurd h
+reports_all plan end ends (a ∷ asked) (o ∷ over) are h = (reports_one plan end ends a o are h.0, reports_all plan end ends asked over are h.1)
 
-served-one : (plan : AgentPlan) (end : PagePlace → EndView) (ends : List EndAt) (x : Served) (s : Serves) (done : ServedDone) → AreEnds end ends → IsServedBy x s → ReportsServes plan.domain plan.version ends s done → ReportsServed plan end x done
-served-one plan end ends x s done are by h =
-    let there = end-there ends end (Payload s.from plan.domain s.port) (λ view. (name : List ℕ) → IsService name (builtin_owes s.service) → ServingOwes plan.version name done.outcome done.got view) are h.2 in
+served_one : (plan : AgentPlan) (end : PagePlace → EndView) (ends : List EndAt) (x : Served) (s : Serves) (done : ServedDone) → AreEnds end ends → IsServedBy x s → ReportsServes plan.domain plan.version ends s done → ReportsServed plan end x done
+served_one plan end ends x s done are by h =
+    let there = end_there ends end (Payload s.from plan.domain s.port) (λ view. (name : List ℕ) → IsService name (builtin_owes s.service) → ServingOwes plan.version name done.outcome done.got view) are h.2 in
     let owes : ServingOwes plan.version x.service done.outcome done.got (end (Payload s.from plan.domain s.port)) = there x.service by.2 in (
       h.0 ∙ by.0,
       h.1 ∙ by.1,
@@ -122,19 +122,19 @@ served-one plan end ends x s done are by h =
           (subst (λ (n : ℕ). ServingOwes plan.version x.service done.outcome done.got (end (Payload s.from plan.domain n))) by.1 owes),
     )
 
-served-all : (plan : AgentPlan) (end : PagePlace → EndView) (ends : List EndAt) (xs : List Served) (ss : List Serves) (dones : List ServedDone) → AreEnds end ends → EachPair IsServedBy xs ss
+served_all : (plan : AgentPlan) (end : PagePlace → EndView) (ends : List EndAt) (xs : List Served) (ss : List Serves) (dones : List ServedDone) → AreEnds end ends → EachPair IsServedBy xs ss
     → EachPair (ReportsServes plan.domain plan.version ends) ss dones → EachPair (ReportsServed plan end) xs dones
-served-all plan end ends [] [] [] are by h = tt
-served-all plan end ends [] [] (d ∷ dones) are by h = absurd h
-served-all plan end ends [] (s ∷ ss) dones are by h = absurd by
-served-all plan end ends (x ∷ xs) [] dones are by h = absurd by
-served-all plan end ends (x ∷ xs) (s ∷ ss) [] are by h = absurd h
-served-all plan end ends (x ∷ xs) (s ∷ ss) (d ∷ dones) are by h = (served-one plan end ends x s d are by.0 h.0, served-all plan end ends xs ss dones are by.1 h.1)
+served_all plan end ends [] [] [] are by h = tt
+served_all plan end ends [] [] (d ∷ dones) are by h = absurd h
+served_all plan end ends [] (s ∷ ss) dones are by h = absurd by
+served_all plan end ends (x ∷ xs) [] dones are by h = absurd by
+served_all plan end ends (x ∷ xs) (s ∷ ss) [] are by h = absurd h
+served_all plan end ends (x ∷ xs) (s ∷ ss) (d ∷ dones) are by h = (served_one plan end ends x s d are by.0 h.0, served_all plan end ends xs ss dones are by.1 h.1)
 
 -- ---- what it sent
 
-asking-calls : (q : QueueState) → map (λ c. asking_of c.call) q.calls ≡ map asking_of (map (λ a. a.call) (asked_by q))
-asking-calls q = each q.calls
+asking_calls : (q : QueueState) → map (λ c. asking_of c.call) q.calls ≡ map asking_of (map (λ a. a.call) (asked_by q))
+asking_calls q = each q.calls
   where
     each : (calls : List Queued) → map (λ c. asking_of c.call) calls ≡ map asking_of (map (λ a. a.call) (map asked_as calls))
     each [] = refl
@@ -154,14 +154,14 @@ pub record IsFinished (a : Agent) (retired : SeatedSide) (ends : List EndAt) (ca
   pub calls_are : EachPair (ReportsCalled a.slots.domain a.slots.version ends) a.slots.called calls
   pub served_are : EachPair (ReportsServes a.slots.domain a.slots.version ends) a.slots.served served
 
-pub done-owes : (how : ControlEnd) (a : Agent) (retired : SeatedSide) (calls : List (Option CallOver)) (done : AgentDone) → IsOver how a → IsFinished a retired (all_retired done.ends.items) calls done.served.items
+pub done_owes : (how : ControlEnd) (a : Agent) (retired : SeatedSide) (calls : List (Option CallOver)) (done : AgentDone) → IsOver how a → IsFinished a retired (all_retired done.ends.items) calls done.served.items
     → done.domain ≡ a.given.domain → done.calls.items ≡ call_dones (asked_by a.control.queue) calls → done.control ≡ how → IsOwed a.given done
-done-owes how a retired calls done over finished domain_is calls_is control_is = (
+done_owes how a retired calls done over finished domain_is calls_is control_is = (
   end,
   domain_is,
   subst (λ (es : List EndAt). EndsOwed false (ends_of g) es end) (sym finished.back.are) (record {
     back = record {
-      same = (record { place = refl; page = ap (λ (v : EndView). v.page) finished.control ∙ same.0; role = ap (λ (v : EndView). v.role) finished.control ∙ same.1 }, same-ends (data_ends g) rest held);
+      same = (record { place = refl; page = ap (λ (v : EndView). v.page) finished.control ∙ same.0; role = ap (λ (v : EndView). v.role) finished.control ∙ same.1 }, same_ends (data_ends g) rest held);
       turned_are = (finished.control_honest, finished.back.honest);
     };
     are = are;
@@ -198,10 +198,10 @@ done-owes how a retired calls done over finished domain_is calls_is control_is =
     held = finished.back.held_are ∙ stands.slots.held
 
     places : places_in rest ≡ places_in (data_ends g)
-    places = same-places (data_ends g) rest held
+    places = same_places (data_ends g) rest held
 
     apart : Differ (places_in all)
-    apart = subst (λ (ps : List PagePlace). Differ (Control g.domain ∷ ps)) (sym places) (no-control g.domain g.payload.value.items, differ-places (places_in (data_ends g)) stands.slots.apart)
+    apart = subst (λ (ps : List PagePlace). Differ (Control g.domain ∷ ps)) (sym places) (no_control g.domain g.payload.value.items, differ_places (places_in (data_ends g)) stands.slots.apart)
 
     end : PagePlace → EndView
     end = end_at (last_view retired) all
@@ -225,14 +225,14 @@ done-owes how a retired calls done over finished domain_is calls_is control_is =
 
     in_order : IsPrefixOf (filter_map asking over.said) (map asking_of plan.calls)
     in_order =
-        let first = asks-in-order a.control.queue over.said stands.speaks.asks in
-        (first.0, first.1 ∙ asking-calls a.control.queue ∙ ap (λ (l : List CallPlan). map asking_of l) stands.calls.calls)
+        let first = asks_in_order a.control.queue over.said stands.speaks.asks in
+        (first.0, first.1 ∙ asking_calls a.control.queue ∙ ap (λ (l : List CallPlan). map asking_of l) stands.calls.calls)
 
     reports : EachPair (ReportsCall plan end) (answers_of plan end).asked (call_dones (asked_by a.control.queue) calls)
     reports =
         subst (λ (x : Answers). EachPair (ReportsCall plan end) x.asked (call_dones (asked_by a.control.queue) calls)) (sym answers_are)
         (subst (λ (l : List Asked). EachPair (ReportsCall plan end) made.asked (call_dones l calls)) (sym stands.answers.asked)
-        (reports-all plan end all made.asked calls are
+        (reports_all plan end all made.asked calls are
         (subst (λ (l : List (Option Called)). EachPair (ReportsCalled g.domain g.version all) l calls) stands.answers.called
         (subst (λ (v : ℕ). EachPair (ReportsCalled g.domain v all) a.slots.called calls) stands.slots.version
         (subst (λ (d : ℕ). EachPair (ReportsCalled d a.slots.version all) a.slots.called calls) stands.slots.domain
@@ -241,7 +241,7 @@ done-owes how a retired calls done over finished domain_is calls_is control_is =
     serves : EachPair (ReportsServed plan end) (answers_of plan end).served served
     serves =
         subst (λ (x : Answers). EachPair (ReportsServed plan end) x.served served) (sym answers_are)
-        (served-all plan end all made.served a.slots.served served are stands.answers.served
+        (served_all plan end all made.served a.slots.served served are stands.answers.served
         (subst (λ (v : ℕ). EachPair (ReportsServes g.domain v all) a.slots.served served) stands.slots.version
         (subst (λ (d : ℕ). EachPair (ReportsServes d a.slots.version all) a.slots.served served) stands.slots.domain
         (subst (λ (es : List EndAt). EachPair (ReportsServes a.slots.domain a.slots.version es) a.slots.served served) finished.back.are finished.served_are))))
@@ -254,12 +254,12 @@ done-owes how a retired calls done over finished domain_is calls_is control_is =
     owes : AgentOwes plan end (call_dones (asked_by a.control.queue) calls) served how
     owes = record {
       said = over.said;
-      says = subst (λ (v : EndView). IsSaid g.version to_broker over.said v.sent) (sym control) (is-said port over.said g.version stands.port.own stands.port.talker stands.speaks.said_is);
+      says = subst (λ (v : EndView). IsSaid g.version to_broker over.said v.sent) (sym control) (is_said port over.said g.version stands.port.own stands.port.talker stands.speaks.said_is);
       in_order = in_order;
       of_version = subst (λ (h : Heard). Each (IsOfVersion h.version) over.said) (sym heard_is) stands.speaks.of_version;
       greeted = λ none. stands.quiet (sym (ap (λ (h : Heard). h.version) heard_is) ∙ none);
       keeps = λ target. subst (λ (x : Answers). KeepsTo (answer_in x.asked) target [] over.said) (sym answers_are)
-          (subst (λ (l : List Asked). KeepsTo (answer_in l) target [] over.said) stands.answers.asked (asks-within a.control.queue over.said stands.speaks.asks stands.calls.apart target));
+          (subst (λ (l : List Asked). KeepsTo (answer_in l) target [] over.said) stands.answers.asked (asks_within a.control.queue over.said stands.speaks.asks stands.calls.apart target));
       told = subst (λ (h : Heard). Each (IsTold (answers_of plan end).asked h.messages) over.said) (sym heard_is)
           (subst (λ (x : Answers). Each (IsTold x.asked over.heard) over.said) (sym answers_are)
           (subst (λ (l : List Asked). Each (IsTold l over.heard) over.said) stands.answers.asked stands.speaks.told));
@@ -269,9 +269,9 @@ done-owes how a retired calls done over finished domain_is calls_is control_is =
     }
 
 -- what it has told
-pub done-tells : (how : ControlEnd) (a : Agent) (retired : SeatedSide) (done : AgentDone) → IsOver how a → last_view retired ≡ view a.control.port.end → done.control ≡ how
+pub done_tells : (how : ControlEnd) (a : Agent) (retired : SeatedSide) (done : AgentDone) → IsOver how a → last_view retired ≡ view a.control.port.end → done.control ≡ how
     → AreBack (first_end a retired) a.slots.held (all_retired done.ends.items) → TellsAll (plan_of a.given) done
-done-tells how a retired done over control control_is back =
+done_tells how a retired done over control control_is back =
     subst (λ (es : List EndAt). (e : EndAt) × (slice_get es 0 ≡ Some e) × (e.place ≡ Control a.given.domain) × TellsOf plan e.view done.control) (sym back.are)
     (first_end a retired, refl, refl, subst (λ (h : ControlEnd). TellsOf plan (last_view retired) h) (sym control_is) (subst (λ (v : EndView). TellsOf plan v how) (sym control) tells))
   where
@@ -285,7 +285,7 @@ done-tells how a retired done over control control_is back =
     stands = over.stands
 
     same_heard : heard_on plan (view port.end) ≡ heard_at port
-    same_heard = heard-at a over.heard over.said stands
+    same_heard = heard_at_lem a over.heard over.said stands
 
     is_fault : (f : SessionFault) → how ≡ Fault f → (heard_on plan (view port.end)).fault ≡ Some f
     is_fault f is =
@@ -294,35 +294,35 @@ done-tells how a retired done over control control_is back =
 
     tells : TellsOf plan (view port.end) how
     tells = record {
-      once = tells-once a over.heard over.said stands over.keeps over.all;
+      once = tells_once a over.heard over.said stands over.keeps over.all;
       fault = λ f. (is_fault f, λ is. over.fault_is f (sym (ap (λ (h : Heard). h.fault) same_heard) ∙ is));
     }
 
 -- ---- where memory ran out
 
-pub given-back : (a : Agent) (retired : SeatedSide) (ends : List EndAt) → CanGiveUp a → (last_view retired).page ≡ (view a.control.port.end).page → (last_view retired).role ≡ (view a.control.port.end).role
+pub given_back : (a : Agent) (retired : SeatedSide) (ends : List EndAt) → CanGiveUp a → (last_view retired).page ≡ (view a.control.port.end).page → (last_view retired).role ≡ (view a.control.port.end).role
     → (last_view retired).turned ≡ false → AreBack (first_end a retired) a.slots.held ends → AreGivenBack false (ends_of a.given) ends
-given-back a retired ends can page role honest back = subst (λ (es : List EndAt). AreGivenBack false (ends_of a.given) es) (sym back.are) (record {
-  same = (record { place = refl; page = page ∙ can.control.0; role = role ∙ can.control.1 }, same-ends (data_ends a.given) back.rest (back.held_are ∙ can.held));
+given_back a retired ends can page role honest back = subst (λ (es : List EndAt). AreGivenBack false (ends_of a.given) es) (sym back.are) (record {
+  same = (record { place = refl; page = page ∙ can.control.0; role = role ∙ can.control.1 }, same_ends (data_ends a.given) back.rest (back.held_are ∙ can.held));
   turned_are = (honest, back.honest);
 })
 
 -- ---- calls one by one
 
-drop-at : (asked : List Asked) (n : ℕ) (a : Asked) → slice_get asked n ≡ Some a → drop n asked ≡ a ∷ drop (suc n) asked
-drop-at [] n a is = cc
-drop-at (x ∷ asked) zero a is = let same : x ≡ a = cc in ap (λ (y : Asked). y ∷ asked) same
-drop-at (x ∷ asked) (suc n) a is = drop-at asked n a is
+drop_at : (asked : List Asked) (n : ℕ) (a : Asked) → slice_get asked n ≡ Some a → drop n asked ≡ a ∷ drop (suc n) asked
+drop_at [] n a is = cc
+drop_at (x ∷ asked) zero a is = let same : x ≡ a = cc in ap (λ (y : Asked). y ∷ asked) same
+drop_at (x ∷ asked) (suc n) a is = drop_at asked n a is
 
-pub dones-step : (asked : List Asked) (made : List CallDone) (rest : List (Option CallOver)) (over : Option CallOver) (a : Asked) (d : CallDone) (all : List CallDone) → slice_get asked (length made) ≡ Some a → d ≡ call_done_of a over
+pub dones_step : (asked : List Asked) (made : List CallDone) (rest : List (Option CallOver)) (over : Option CallOver) (a : Asked) (d : CallDone) (all : List CallDone) → slice_get asked (length made) ≡ Some a → d ≡ call_done_of a over
     → made ++ call_dones (drop (length made) asked) (over ∷ rest) ≡ all → (made ++ d ∷ []) ++ call_dones (drop (length (made ++ d ∷ [])) asked) rest ≡ all
-dones-step asked made rest over a d all at d_is h =
+dones_step asked made rest over a d all at d_is h =
     let long : length (made ++ d ∷ []) ≡ suc (length made) = omega (arith, length-append made (d ∷ [])) in
     ap (λ (n : ℕ). (made ++ d ∷ []) ++ call_dones (drop n asked) rest) long ∙ append_assoc made (d ∷ []) (call_dones (drop (suc (length made)) asked) rest)
-    ∙ ap (λ (x : CallDone). made ++ x ∷ call_dones (drop (suc (length made)) asked) rest) d_is ∙ sym (ap (λ (l : List Asked). made ++ call_dones l (over ∷ rest)) (drop-at asked (length made) a at)) ∙ h
+    ∙ ap (λ (x : CallDone). made ++ x ∷ call_dones (drop (suc (length made)) asked) rest) d_is ∙ sym (ap (λ (l : List Asked). made ++ call_dones l (over ∷ rest)) (drop_at asked (length made) a at)) ∙ h
 
 -- each call reports what came of its session
-pub calls-long : (how : ControlEnd) (a : Agent) (ends : List EndAt) (calls : List (Option CallOver)) → IsOver how a → EachPair (ReportsCalled a.slots.domain a.slots.version ends) a.slots.called calls → length calls ≡ length (asked_by a.control.queue)
-calls-long how a ends calls over each =
+pub calls_long : (how : ControlEnd) (a : Agent) (ends : List EndAt) (calls : List (Option CallOver)) → IsOver how a → EachPair (ReportsCalled a.slots.domain a.slots.version ends) a.slots.called calls → length calls ≡ length (asked_by a.control.queue)
+calls_long how a ends calls over each =
     AllZip-long (ReportsCalled a.slots.domain a.slots.version ends) a.slots.called calls each ∙ ap (λ (l : List (Option Called)). length l) over.stands.answers.called
     ∙ length-map (answers (plan_of a.given) over.heard).asked called_of ∙ ap (λ (l : List Asked). length l) (sym over.stands.answers.asked)

@@ -24,156 +24,156 @@ front : {A : Type 0} (xs : List A) (x : A) (ys : List A) → IsPermutation (x �
 front xs x ys = IsPermutation-sym (xs ++ x ∷ ys) (x ∷ (xs ++ ys)) (IsPermutation-middle xs x ys)
 
 -- nothing more is asked for
-known-passed : (called : List (Option Called)) (heard : List Message) (w : Message) → session_asked w ≡ None → sessions_known called (heard ++ w ∷ []) ≡ sessions_known called heard
-known-passed called heard w none =
+known_passed : (called : List (Option Called)) (heard : List Message) (w : Message) → session_asked w ≡ None → sessions_known called (heard ++ w ∷ []) ≡ sessions_known called heard
+known_passed called heard w none =
     ap (λ l. filter_map (option_map session_called) called ++ l)
     (filter_map-append session_asked heard (w ∷ []) ∙ (ap (λ (o : Option (ℕ × ℕ)). filter_map session_asked heard ++ cons_option o []) none ∙ append-nil (filter_map session_asked heard)))
 
 -- a message asks to serve
-known-asked : (called : List (Option Called)) (heard : List Message) (w : Message) (e : ℕ × ℕ) → session_asked w ≡ Some e → IsPermutation (e ∷ sessions_known called heard) (sessions_known called (heard ++ w ∷ []))
-known-asked called heard w e is =
+known_asked : (called : List (Option Called)) (heard : List Message) (w : Message) (e : ℕ × ℕ) → session_asked w ≡ Some e → IsPermutation (e ∷ sessions_known called heard) (sessions_known called (heard ++ w ∷ []))
+known_asked called heard w e is =
     let known = sessions_known called heard in
     let more : sessions_known called (heard ++ w ∷ []) ≡ known ++ e ∷ [] =
     ap (λ l. filter_map (option_map session_called) called ++ l) (filter_map-append session_asked heard (w ∷ []) ∙ ap (λ (o : Option (ℕ × ℕ)). filter_map session_asked heard ++ cons_option o []) is)
     ∙ sym (append_assoc (filter_map (option_map session_called) called) (filter_map session_asked heard) (e ∷ [])) in
     subst (λ l. IsPermutation (e ∷ known) l) (sym more) (IsPermutation-sym (known ++ e ∷ []) (e ∷ known) (IsPermutation-to_front known e))
 
-set-more : (called : List (Option Called)) (place : ℕ) (c : Called) → slice_get called place ≡ Some None
+set_more : (called : List (Option Called)) (place : ℕ) (c : Called) → slice_get called place ≡ Some None
     → IsPermutation (session_called c ∷ filter_map (option_map session_called) called) (filter_map (option_map session_called) (slice_set called place (Some c)))
-set-more [] place c free = cc
-set-more (None ∷ called) zero c free = IsPermutation-refl (session_called c ∷ filter_map (option_map session_called) called)
-set-more (Some d ∷ called) zero c free = absurd (bad free)
+set_more [] place c free = cc
+set_more (None ∷ called) zero c free = IsPermutation-refl (session_called c ∷ filter_map (option_map session_called) called)
+set_more (Some d ∷ called) zero c free = absurd (bad free)
   where
     bad : ◌≡◌ {A = Option (Option Called)} (Some (Some d)) (Some None) → ⊥
     bad e = cc
-set-more (None ∷ called) (suc place) c free = set-more called place c free
-set-more (Some d ∷ called) (suc place) c free =
+set_more (None ∷ called) (suc place) c free = set_more called place c free
+set_more (Some d ∷ called) (suc place) c free =
     let rest = filter_map (option_map session_called) called in
     let rest' = filter_map (option_map session_called) (slice_set called place (Some c)) in
     IsPermutation-trans (session_called c ∷ session_called d ∷ rest) (session_called d ∷ session_called c ∷ rest) (session_called d ∷ rest') (front (session_called d ∷ []) (session_called c) rest)
-    (IsPermutation-cons (session_called d) (session_called c ∷ rest) rest' (set-more called place c free))
+    (IsPermutation-cons (session_called d) (session_called c ∷ rest) rest' (set_more called place c free))
 
 -- a call is let through
-known-called : (called : List (Option Called)) (place : ℕ) (c : Called) (heard : List Message) (w : Message) → slice_get called place ≡ Some None → session_asked w ≡ None
+known_called : (called : List (Option Called)) (place : ℕ) (c : Called) (heard : List Message) (w : Message) → slice_get called place ≡ Some None → session_asked w ≡ None
     → IsPermutation (session_called c ∷ sessions_known called heard) (sessions_known (slice_set called place (Some c)) (heard ++ w ∷ []))
-known-called called place c heard w free none =
-    subst (λ l. IsPermutation (session_called c ∷ sessions_known called heard) l) (sym (known-passed (slice_set called place (Some c)) heard w none))
-    (IsPermutation-append_left (filter_map session_asked heard) (session_called c ∷ filter_map (option_map session_called) called) (filter_map (option_map session_called) (slice_set called place (Some c))) (set-more called place c free))
+known_called called place c heard w free none =
+    subst (λ l. IsPermutation (session_called c ∷ sessions_known called heard) l) (sym (known_passed (slice_set called place (Some c)) heard w none))
+    (IsPermutation-append_left (filter_map session_asked heard) (session_called c ∷ filter_map (option_map session_called) called) (filter_map (option_map session_called) (slice_set called place (Some c))) (set_more called place c free))
 
 -- ---- one that is held more
 
-at-opened : {A : Type 0} (f u o l : List A) (e : A) → f ++ ((u ++ (o ++ e ∷ [])) ++ l) ≡ (f ++ (u ++ o)) ++ e ∷ l
-at-opened f u o l e = simp append_assoc
+at_opened : {A : Type 0} (f u o l : List A) (e : A) → f ++ ((u ++ (o ++ e ∷ [])) ++ l) ≡ (f ++ (u ++ o)) ++ e ∷ l
+at_opened f u o l e = simp append_assoc
 
-at-unsaid : {A : Type 0} (f u o l : List A) (e : A) → f ++ (((u ++ e ∷ []) ++ o) ++ l) ≡ (f ++ u) ++ e ∷ (o ++ l)
-at-unsaid f u o l e = simp append_assoc
+at_unsaid : {A : Type 0} (f u o l : List A) (e : A) → f ++ (((u ++ e ∷ []) ++ o) ++ l) ≡ (f ++ u) ++ e ∷ (o ++ l)
+at_unsaid f u o l e = simp append_assoc
 
-without-one : {A : Type 0} (f u o l : List A) → (f ++ u) ++ (o ++ l) ≡ f ++ ((u ++ o) ++ l)
-without-one f u o l = simp append_assoc
+without_one : {A : Type 0} (f u o l : List A) → (f ++ u) ++ (o ++ l) ≡ f ++ ((u ++ o) ++ l)
+without_one f u o l = simp append_assoc
 
-held-opened : (said : List Message) (unsaid opened : List SessionEnd) (lost : List (ℕ × ℕ)) (o : SessionEnd)
+held_opened : (said : List Message) (unsaid opened : List SessionEnd) (lost : List (ℕ × ℕ)) (o : SessionEnd)
     → IsPermutation (session_of_end o ∷ sessions_held said unsaid opened lost) (sessions_held said unsaid (opened ++ o ∷ []) lost)
-held-opened said unsaid opened lost o =
+held_opened said unsaid opened lost o =
     let f = filter_map session_told said in
     let u = map session_of_end unsaid in
     let os = map session_of_end opened in
     let now : sessions_held said unsaid (opened ++ o ∷ []) lost ≡ (f ++ (u ++ os)) ++ session_of_end o ∷ lost =
-    ap (λ l. f ++ ((u ++ l) ++ lost)) (map-append session_of_end opened (o ∷ [])) ∙ at-opened f u os lost (session_of_end o) in
+    ap (λ l. f ++ ((u ++ l) ++ lost)) (map-append session_of_end opened (o ∷ [])) ∙ at_opened f u os lost (session_of_end o) in
     subst (λ l. IsPermutation (session_of_end o ∷ sessions_held said unsaid opened lost) l) (sym now)
     (subst (λ l. IsPermutation (session_of_end o ∷ l) ((f ++ (u ++ os)) ++ session_of_end o ∷ lost)) (append_assoc f (u ++ os) lost) (front (f ++ (u ++ os)) (session_of_end o) lost))
 
-held-unsaid : (said : List Message) (unsaid opened : List SessionEnd) (lost : List (ℕ × ℕ)) (e : SessionEnd)
+held_unsaid : (said : List Message) (unsaid opened : List SessionEnd) (lost : List (ℕ × ℕ)) (e : SessionEnd)
     → IsPermutation (session_of_end e ∷ sessions_held said unsaid opened lost) (sessions_held said (unsaid ++ e ∷ []) opened lost)
-held-unsaid said unsaid opened lost e =
+held_unsaid said unsaid opened lost e =
     let f = filter_map session_told said in
     let u = map session_of_end unsaid in
     let os = map session_of_end opened in
     let now : sessions_held said (unsaid ++ e ∷ []) opened lost ≡ (f ++ u) ++ session_of_end e ∷ (os ++ lost) =
-    ap (λ l. f ++ ((l ++ os) ++ lost)) (map-append session_of_end unsaid (e ∷ [])) ∙ at-unsaid f u os lost (session_of_end e) in
+    ap (λ l. f ++ ((l ++ os) ++ lost)) (map-append session_of_end unsaid (e ∷ [])) ∙ at_unsaid f u os lost (session_of_end e) in
     subst (λ l. IsPermutation (session_of_end e ∷ sessions_held said unsaid opened lost) l) (sym now)
-    (subst (λ l. IsPermutation (session_of_end e ∷ l) ((f ++ u) ++ session_of_end e ∷ (os ++ lost))) (without-one f u os lost) (front (f ++ u) (session_of_end e) (os ++ lost)))
+    (subst (λ l. IsPermutation (session_of_end e ∷ l) ((f ++ u) ++ session_of_end e ∷ (os ++ lost))) (without_one f u os lost) (front (f ++ u) (session_of_end e) (os ++ lost)))
 
 -- one more on both sides
-both-more : {A : Type 0} (e : A) (held held' known known' : List A) → IsPermutation (e ∷ held) held' → IsPermutation (e ∷ known) known' → IsPermutation held known → IsPermutation held' known'
-both-more e held held' known known' p q h =
+both_more : {A : Type 0} (e : A) (held held' known known' : List A) → IsPermutation (e ∷ held) held' → IsPermutation (e ∷ known) known' → IsPermutation held known → IsPermutation held' known'
+both_more e held held' known known' p q h =
     IsPermutation-trans held' (e ∷ held) known' (IsPermutation-sym (e ∷ held) held' p) (IsPermutation-trans (e ∷ held) (e ∷ known) known' (IsPermutation-cons e held known h) q)
 
 -- ---- a message is heard
 
-pub kept-passed : (over : Option ControlEnd) (called : List (Option Called)) (unsaid opened : List SessionEnd) (heard said : List Message) (w : Message) → session_asked w ≡ None
+pub kept_passed : (over : Option ControlEnd) (called : List (Option Called)) (unsaid opened : List SessionEnd) (heard said : List Message) (w : Message) → session_asked w ≡ None
     → AreKept over called unsaid opened heard said → AreKept over called unsaid opened (heard ++ w ∷ []) said
-kept-passed over called unsaid opened heard said w none k = record {
+kept_passed over called unsaid opened heard said w none k = record {
   lost = k.lost;
   none_lost = k.none_lost;
-  are = subst (λ l. IsPermutation (sessions_held said unsaid opened k.lost) l) (sym (known-passed called heard w none)) k.are;
+  are = subst (λ l. IsPermutation (sessions_held said unsaid opened k.lost) l) (sym (known_passed called heard w none)) k.are;
 }
 
-pub kept-called : (over : Option ControlEnd) (called : List (Option Called)) (unsaid opened : List SessionEnd) (heard said : List Message) (w : Message) (place : ℕ) (c : Called) → slice_get called place ≡ Some None
+pub kept_called : (over : Option ControlEnd) (called : List (Option Called)) (unsaid opened : List SessionEnd) (heard said : List Message) (w : Message) (place : ℕ) (c : Called) → slice_get called place ≡ Some None
     → session_asked w ≡ None → AreKept over called unsaid opened heard said
     → AreKept over (slice_set called place (Some c)) unsaid (opened ++ record { domain = c.to; port = c.port; call = Some place } ∷ []) (heard ++ w ∷ []) said
-kept-called over called unsaid opened heard said w place c free none k =
+kept_called over called unsaid opened heard said w place c free none k =
     let o : SessionEnd = record { domain = c.to; port = c.port; call = Some place } in
     record {
       lost = k.lost;
       none_lost = k.none_lost;
-      are = both-more (session_called c) (sessions_held said unsaid opened k.lost) (sessions_held said unsaid (opened ++ o ∷ []) k.lost) (sessions_known called heard) (sessions_known (slice_set called place (Some c)) (heard ++ w ∷ []))
-          (held-opened said unsaid opened k.lost o) (known-called called place c heard w free none) k.are;
+      are = both_more (session_called c) (sessions_held said unsaid opened k.lost) (sessions_held said unsaid (opened ++ o ∷ []) k.lost) (sessions_known called heard) (sessions_known (slice_set called place (Some c)) (heard ++ w ∷ []))
+          (held_opened said unsaid opened k.lost o) (known_called called place c heard w free none) k.are;
     }
 
-pub kept-served : (over : Option ControlEnd) (called : List (Option Called)) (unsaid opened : List SessionEnd) (heard said : List Message) (w : Message) (o : SessionEnd) → session_asked w ≡ Some (session_of_end o)
+pub kept_served : (over : Option ControlEnd) (called : List (Option Called)) (unsaid opened : List SessionEnd) (heard said : List Message) (w : Message) (o : SessionEnd) → session_asked w ≡ Some (session_of_end o)
     → AreKept over called unsaid opened heard said → AreKept over called unsaid (opened ++ o ∷ []) (heard ++ w ∷ []) said
-kept-served over called unsaid opened heard said w o asks k = record {
+kept_served over called unsaid opened heard said w o asks k = record {
   lost = k.lost;
   none_lost = k.none_lost;
-  are = both-more (session_of_end o) (sessions_held said unsaid opened k.lost) (sessions_held said unsaid (opened ++ o ∷ []) k.lost) (sessions_known called heard) (sessions_known called (heard ++ w ∷ []))
-      (held-opened said unsaid opened k.lost o) (known-asked called heard w (session_of_end o) asks) k.are;
+  are = both_more (session_of_end o) (sessions_held said unsaid opened k.lost) (sessions_held said unsaid (opened ++ o ∷ []) k.lost) (sessions_known called heard) (sessions_known called (heard ++ w ∷ []))
+      (held_opened said unsaid opened k.lost o) (known_asked called heard w (session_of_end o) asks) k.are;
 }
 
-pub kept-unserved : (over : Option ControlEnd) (called : List (Option Called)) (unsaid opened : List SessionEnd) (heard said : List Message) (w : Message) (e : SessionEnd) → session_asked w ≡ Some (session_of_end e)
+pub kept_unserved : (over : Option ControlEnd) (called : List (Option Called)) (unsaid opened : List SessionEnd) (heard said : List Message) (w : Message) (e : SessionEnd) → session_asked w ≡ Some (session_of_end e)
     → AreKept over called unsaid opened heard said → AreKept over called (unsaid ++ e ∷ []) opened (heard ++ w ∷ []) said
-kept-unserved over called unsaid opened heard said w e asks k = record {
+kept_unserved over called unsaid opened heard said w e asks k = record {
   lost = k.lost;
   none_lost = k.none_lost;
-  are = both-more (session_of_end e) (sessions_held said unsaid opened k.lost) (sessions_held said (unsaid ++ e ∷ []) opened k.lost) (sessions_known called heard) (sessions_known called (heard ++ w ∷ []))
-      (held-unsaid said unsaid opened k.lost e) (known-asked called heard w (session_of_end e) asks) k.are;
+  are = both_more (session_of_end e) (sessions_held said unsaid opened k.lost) (sessions_held said (unsaid ++ e ∷ []) opened k.lost) (sessions_known called heard) (sessions_known called (heard ++ w ∷ []))
+      (held_unsaid said unsaid opened k.lost e) (known_asked called heard w (session_of_end e) asks) k.are;
 }
 
 -- ---- more is sent
 
-ends-told : (told : List SessionEnd) → filter_map session_told (map terminated told) ≡ map session_of_end told
-ends-told [] = refl
-ends-told (e ∷ told) = ap (λ l. session_of_end e ∷ l) (ends-told told)
+ends_told : (told : List SessionEnd) → filter_map session_told (map terminated told) ≡ map session_of_end told
+ends_told [] = refl
+ends_told (e ∷ told) = ap (λ l. session_of_end e ∷ l) (ends_told told)
 
-none-told : (m : Message) → is_some (asking m) ≡ true → session_told m ≡ None
-none-told (m.Terminated d p) h = cc
-none-told (m.Hello v) h = refl
-none-told (m.Stdin b) h = refl
-none-told (m.Stdout b) h = refl
-none-told (m.Stderr b) h = refl
-none-told (m.ExitCode c) h = refl
-none-told (m.Exec d p l) h = refl
-none-told (m.JustExec d p l) h = refl
-none-told (m.Connect d p i) h = refl
-none-told (m.Refused i) h = refl
-none-told (m.Trigger3 t i s) h = refl
-none-told (m.Trigger t i s) h = refl
+none_told : (m : Message) → is_some (asking m) ≡ true → session_told m ≡ None
+none_told (m.Terminated d p) h = cc
+none_told (m.Hello v) h = refl
+none_told (m.Stdin b) h = refl
+none_told (m.Stdout b) h = refl
+none_told (m.Stderr b) h = refl
+none_told (m.ExitCode c) h = refl
+none_told (m.Exec d p l) h = refl
+none_told (m.JustExec d p l) h = refl
+none_told (m.Connect d p i) h = refl
+none_told (m.Refused i) h = refl
+none_told (m.Trigger3 t i s) h = refl
+none_told (m.Trigger t i s) h = refl
 
-triggers-told : (ms : List Message) → Each (λ m. is_some (asking m) ≡ true) ms → filter_map session_told ms ≡ []
-triggers-told [] each = refl
-triggers-told (x ∷ ms) each = ap (λ (o : Option (ℕ × ℕ)). cons_option o (filter_map session_told ms)) (none-told x each.0) ∙ triggers-told ms each.1
+triggers_told : (ms : List Message) → Each (λ m. is_some (asking m) ≡ true) ms → filter_map session_told ms ≡ []
+triggers_told [] each = refl
+triggers_told (x ∷ ms) each = ap (λ (o : Option (ℕ × ℕ)). cons_option o (filter_map session_told ms)) (none_told x each.0) ∙ triggers_told ms each.1
 
-spoken-told : (calls : ℕ) (told waiting : List SessionEnd) (more : List Message) → IsSpoken calls told waiting more → filter_map session_told more ≡ map session_of_end told
-spoken-told calls told waiting more h =
+spoken_told : (calls : ℕ) (told waiting : List SessionEnd) (more : List Message) → IsSpoken calls told waiting more → filter_map session_told more ≡ map session_of_end told
+spoken_told calls told waiting more h =
     ap (λ l. filter_map session_told l) h.is
     ∙ (filter_map-append session_told (map terminated told) h.triggers
-    ∙ (ap (λ l. filter_map session_told (map terminated told) ++ l) (triggers-told h.triggers h.each) ∙ (append-nil (filter_map session_told (map terminated told)) ∙ ends-told told)))
+    ∙ (ap (λ l. filter_map session_told (map terminated told) ++ l) (triggers_told h.triggers h.each) ∙ (append-nil (filter_map session_told (map terminated told)) ∙ ends_told told)))
 
-move-told : {A : Type 0} (f t n o l : List A) → (f ++ t) ++ ((n ++ o) ++ l) ≡ f ++ (((t ++ n) ++ o) ++ l)
-move-told f t n o l = simp append_assoc
+move_told : {A : Type 0} (f t n o l : List A) → (f ++ t) ++ ((n ++ o) ++ l) ≡ f ++ (((t ++ n) ++ o) ++ l)
+move_told f t n o l = simp append_assoc
 
-pub kept-said : (over : Option ControlEnd) (called : List (Option Called)) (old new told opened : List SessionEnd) (heard said more : List Message) (calls : ℕ) → old ≡ told ++ new → IsSpoken calls told new more
+pub kept_said : (over : Option ControlEnd) (called : List (Option Called)) (old new told opened : List SessionEnd) (heard said more : List Message) (calls : ℕ) → old ≡ told ++ new → IsSpoken calls told new more
     → AreKept over called old opened heard said → AreKept over called new opened heard (said ++ more)
-kept-said over called old new told opened heard said more calls split spoken k = record {
+kept_said over called old new told opened heard said more calls split spoken k = record {
   lost = k.lost;
   none_lost = k.none_lost;
   are = subst (λ l. IsPermutation l (sessions_known called heard)) (sym same) k.are;
@@ -184,8 +184,8 @@ kept-said over called old new told opened heard said more calls split spoken k =
 
     same : sessions_held (said ++ more) new opened k.lost ≡ sessions_held said old opened k.lost
     same =
-        ap (λ l. l ++ ((map session_of_end new ++ map session_of_end opened) ++ k.lost)) (filter_map-append session_told said more ∙ ap (λ l. f ++ l) (spoken-told calls told new more spoken))
-        ∙ (move-told f (map session_of_end told) (map session_of_end new) (map session_of_end opened) k.lost
+        ap (λ l. l ++ ((map session_of_end new ++ map session_of_end opened) ++ k.lost)) (filter_map-append session_told said more ∙ ap (λ l. f ++ l) (spoken_told calls told new more spoken))
+        ∙ (move_told f (map session_of_end told) (map session_of_end new) (map session_of_end opened) k.lost
         ∙ ap (λ l. f ++ ((l ++ map session_of_end opened) ++ k.lost)) (sym (ap (λ l. map session_of_end l) split ∙ map-append session_of_end told new)))
 
 -- ---- sessions are over
@@ -193,19 +193,19 @@ kept-said over called old new told opened heard said more calls split spoken k =
 overs : (told opened opened' : List SessionEnd) → IsPermutation (told ++ opened') opened → IsPermutation (map session_of_end told ++ map session_of_end opened') (map session_of_end opened)
 overs told opened opened' p = subst (λ l. IsPermutation l (map session_of_end opened)) (map-append session_of_end told opened') (IsPermutation-map session_of_end (told ++ opened') opened p)
 
-move-over : {A : Type 0} (f u t o l : List A) → f ++ (((u ++ t) ++ o) ++ l) ≡ f ++ ((u ++ (t ++ o)) ++ l)
-move-over f u t o l = simp append_assoc
+move_over : {A : Type 0} (f u t o l : List A) → f ++ (((u ++ t) ++ o) ++ l) ≡ f ++ ((u ++ (t ++ o)) ++ l)
+move_over f u t o l = simp append_assoc
 
-move-lost : {A : Type 0} (f u o t l : List A) → f ++ ((u ++ o) ++ (t ++ l)) ≡ f ++ ((u ++ (o ++ t)) ++ l)
-move-lost f u o t l = simp append_assoc
+move_lost : {A : Type 0} (f u o t l : List A) → f ++ ((u ++ o) ++ (t ++ l)) ≡ f ++ ((u ++ (o ++ t)) ++ l)
+move_lost f u o t l = simp append_assoc
 
 inside : {A : Type 0} (f u l xs ys : List A) → IsPermutation xs ys → IsPermutation (f ++ ((u ++ xs) ++ l)) (f ++ ((u ++ ys) ++ l))
 inside f u l xs ys p = IsPermutation-append_right f ((u ++ xs) ++ l) ((u ++ ys) ++ l) (IsPermutation-append_left l (u ++ xs) (u ++ ys) (IsPermutation-append_right u xs ys p))
 
 -- and are to be reported
-pub kept-over : (over : Option ControlEnd) (called : List (Option Called)) (unsaid unsaid' opened opened' told : List SessionEnd) (heard said : List Message) → unsaid' ≡ unsaid ++ told
+pub kept_over : (over : Option ControlEnd) (called : List (Option Called)) (unsaid unsaid' opened opened' told : List SessionEnd) (heard said : List Message) → unsaid' ≡ unsaid ++ told
     → IsPermutation (told ++ opened') opened → AreKept over called unsaid opened heard said → AreKept over called unsaid' opened' heard said
-kept-over over called unsaid unsaid' opened opened' told heard said more p k = record {
+kept_over over called unsaid unsaid' opened opened' told heard said more p k = record {
   lost = k.lost;
   none_lost = k.none_lost;
   are = subst (λ l. IsPermutation l (sessions_known called heard)) (sym same)
@@ -227,15 +227,15 @@ kept-over over called unsaid unsaid' opened opened' told heard said more p k = r
     same : sessions_held said unsaid' opened' k.lost ≡ f ++ ((u ++ (t ++ o')) ++ k.lost)
     same =
         ap (λ l. f ++ ((l ++ o') ++ k.lost)) (ap (λ l. map session_of_end l) more ∙ map-append session_of_end unsaid told)
-        ∙ move-over f u t o' k.lost
+        ∙ move_over f u t o' k.lost
 
 -- or are lost, if the control channel is over
-pub kept-lost : (how : ControlEnd) (called : List (Option Called)) (unsaid opened opened' told : List SessionEnd) (heard said : List Message) → IsPermutation (told ++ opened') opened
+pub kept_lost : (how : ControlEnd) (called : List (Option Called)) (unsaid opened opened' told : List SessionEnd) (heard said : List Message) → IsPermutation (told ++ opened') opened
     → AreKept (Some how) called unsaid opened heard said → AreKept (Some how) called unsaid opened' heard said
-kept-lost how called unsaid opened opened' told heard said p k = record {
+kept_lost how called unsaid opened opened' told heard said p k = record {
   lost = t ++ k.lost;
   none_lost = λ none. absurd (never none);
-  are = subst (λ l. IsPermutation l (sessions_known called heard)) (sym (move-lost f u o' t k.lost))
+  are = subst (λ l. IsPermutation l (sessions_known called heard)) (sym (move_lost f u o' t k.lost))
       (IsPermutation-trans (f ++ ((u ++ (o' ++ t)) ++ k.lost)) (sessions_held said unsaid opened k.lost) (sessions_known called heard)
       (inside f u k.lost (o' ++ t) (map session_of_end opened) (IsPermutation-trans (o' ++ t) (t ++ o') (map session_of_end opened) (IsPermutation-append_comm o' t) (overs told opened opened' p))) k.are);
 }
@@ -256,37 +256,37 @@ kept-lost how called unsaid opened opened' told heard said p k = record {
     o' = map session_of_end opened'
 
 -- the control channel is over
-pub kept-still : (over : Option ControlEnd) (how : ControlEnd) (called : List (Option Called)) (unsaid opened : List SessionEnd) (heard said : List Message) → AreKept over called unsaid opened heard said
+pub kept_still : (over : Option ControlEnd) (how : ControlEnd) (called : List (Option Called)) (unsaid opened : List SessionEnd) (heard said : List Message) → AreKept over called unsaid opened heard said
     → AreKept (Some how) called unsaid opened heard said
-kept-still over how called unsaid opened heard said k = record { lost = k.lost; none_lost = λ none. absurd (never none); are = k.are }
+kept_still over how called unsaid opened heard said k = record { lost = k.lost; none_lost = λ none. absurd (never none); are = k.are }
   where
     never : Some how ≡ None → ⊥
     never e = cc
 
 -- ---- what is told
 
-owed-known : (asked : List Asked) → filter_map (option_map session_called) (map called_of asked) ≡ filter_map (λ a. session_of_answer a.answer) asked
-owed-known [] = refl
-owed-known (a ∷ asked) = ap (λ (o : Option (ℕ × ℕ)). cons_option o (filter_map (option_map session_called) (map called_of asked))) (by_answer a.call a.answer) ∙ ap (λ l. cons_option (session_of_answer a.answer) l) (owed-known asked)
+owed_known : (asked : List Asked) → filter_map (option_map session_called) (map called_of asked) ≡ filter_map (λ a. session_of_answer a.answer) asked
+owed_known [] = refl
+owed_known (a ∷ asked) = ap (λ (o : Option (ℕ × ℕ)). cons_option o (filter_map (option_map session_called) (map called_of asked))) (by_answer a.call a.answer) ∙ ap (λ l. cons_option (session_of_answer a.answer) l) (owed_known asked)
   where
     by_answer : (call : CallPlan) (x : Answer) → option_map session_called (called_by call x) ≡ session_of_answer x
     by_answer call Waits = refl
     by_answer call IsRefused = refl
     by_answer call (At to port) = refl
 
-known-owed : (called : List (Option Called)) (asked : List Asked) (heard : List Message) → called ≡ map called_of asked → sessions_known called heard ≡ sessions_owed asked heard
-known-owed called asked heard is = ap (λ (l : List (Option Called)). sessions_known l heard) is ∙ ap (λ l. l ++ filter_map session_asked heard) (owed-known asked)
+known_owed : (called : List (Option Called)) (asked : List Asked) (heard : List Message) → called ≡ map called_of asked → sessions_known called heard ≡ sessions_owed asked heard
+known_owed called asked heard is = ap (λ (l : List (Option Called)). sessions_known l heard) is ∙ ap (λ l. l ++ filter_map session_asked heard) (owed_known asked)
 
 -- at most once for each that is owed
-pub kept-told : (over : Option ControlEnd) (called : List (Option Called)) (asked : List Asked) (unsaid opened : List SessionEnd) (heard said : List Message) → called ≡ map called_of asked
+pub kept_told : (over : Option ControlEnd) (called : List (Option Called)) (asked : List Asked) (unsaid opened : List SessionEnd) (heard said : List Message) → called ≡ map called_of asked
     → AreKept over called unsaid opened heard said → IsPartOf (filter_map session_told said) (sessions_owed asked heard)
-kept-told over called asked unsaid opened heard said is k =
-    ((map session_of_end unsaid ++ map session_of_end opened) ++ k.lost, subst (λ l. IsPermutation (sessions_held said unsaid opened k.lost) l) (known-owed called asked heard is) k.are)
+kept_told over called asked unsaid opened heard said is k =
+    ((map session_of_end unsaid ++ map session_of_end opened) ++ k.lost, subst (λ l. IsPermutation (sessions_held said unsaid opened k.lost) l) (known_owed called asked heard is) k.are)
 
 -- while the control channel is up, each that wasn't reported waits or is open
-pub kept-waits : (called : List (Option Called)) (asked : List Asked) (unsaid opened : List SessionEnd) (heard said : List Message) → called ≡ map called_of asked → AreKept None called unsaid opened heard said
+pub kept_waits : (called : List (Option Called)) (asked : List Asked) (unsaid opened : List SessionEnd) (heard said : List Message) → called ≡ map called_of asked → AreKept None called unsaid opened heard said
     → IsPermutation (filter_map session_told said ++ (map session_of_end unsaid ++ map session_of_end opened)) (sessions_owed asked heard)
-kept-waits called asked unsaid opened heard said is k = subst (λ l. IsPermutation l (sessions_owed asked heard)) none (subst (λ l. IsPermutation (sessions_held said unsaid opened k.lost) l) (known-owed called asked heard is) k.are)
+kept_waits called asked unsaid opened heard said is k = subst (λ l. IsPermutation l (sessions_owed asked heard)) none (subst (λ l. IsPermutation (sessions_held said unsaid opened k.lost) l) (known_owed called asked heard is) k.are)
   where
     waiting : List (ℕ × ℕ)
     waiting = map session_of_end unsaid ++ map session_of_end opened
@@ -295,9 +295,9 @@ kept-waits called asked unsaid opened heard said is k = subst (λ l. IsPermutati
     none = ap (λ l. filter_map session_told said ++ (waiting ++ l)) (k.none_lost refl) ∙ ap (λ l. filter_map session_told said ++ l) (append-nil waiting)
 
 -- before anything is heard
-pub kept-first : (calls : List CallPlan) (called : List (Option Called)) (unsaid opened : List SessionEnd) → called ≡ map called_of (map (λ call. record { call = call; answer = Waits }) calls) → unsaid ≡ [] → opened ≡ []
+pub kept_first : (calls : List CallPlan) (called : List (Option Called)) (unsaid opened : List SessionEnd) → called ≡ map called_of (map (λ call. record { call = call; answer = Waits }) calls) → unsaid ≡ [] → opened ≡ []
     → AreKept None called unsaid opened [] []
-kept-first calls called unsaid opened called_is none shut = record {
+kept_first calls called unsaid opened called_is none shut = record {
   lost = [];
   none_lost = λ h. refl;
   are = subst (λ (l : List (ℕ × ℕ)). IsPermutation l (sessions_known called [])) (sym held) (subst (λ (l : List (ℕ × ℕ)). IsPermutation [] l) (sym known) (IsPermutation-refl []));
@@ -306,9 +306,9 @@ kept-first calls called unsaid opened called_is none shut = record {
     held : sessions_held [] unsaid opened [] ≡ []
     held = ap (λ (l : List SessionEnd). (map session_of_end l ++ map session_of_end opened) ++ []) none ∙ ap (λ (l : List SessionEnd). map session_of_end l ++ []) shut
 
-    none-yet : (calls : List CallPlan) → filter_map (option_map session_called) (map called_of (map (λ call. record { call = call; answer = Waits }) calls)) ≡ []
-    none-yet [] = refl
-    none-yet (c ∷ calls) = none-yet calls
+    none_yet : (calls : List CallPlan) → filter_map (option_map session_called) (map called_of (map (λ call. record { call = call; answer = Waits }) calls)) ≡ []
+    none_yet [] = refl
+    none_yet (c ∷ calls) = none_yet calls
 
     known : sessions_known called [] ≡ []
-    known = append-nil (filter_map (option_map session_called) called) ∙ (ap (λ (l : List (Option Called)). filter_map (option_map session_called) l) called_is ∙ none-yet calls)
+    known = append-nil (filter_map (option_map session_called) called) ∙ (ap (λ (l : List (Option Called)). filter_map (option_map session_called) l) called_is ∙ none_yet calls)

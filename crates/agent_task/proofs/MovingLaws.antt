@@ -15,20 +15,20 @@ use Rattle.vchan_rule.specs.Called.{most_asked}
 use Rattle.vchan_lifecycle.specs.Lifecycle.{drained_to, drain_told}
 use Rattle.vchan_lifecycle.specs.declared.DrainAnswer.{DrainAnswer}
 use Rattle.vchan_lifecycle.specs.declared.DrainAnswer.TheVariants.{More, NotYet, AllRead, PeerGone}
-use Rattle.vchan_lifecycle.proofs.DrainLaws.{drained-sent, drained-got}
+use Rattle.vchan_lifecycle.proofs.DrainLaws.{drained_sent, drained_got}
 use Rattle.vchan_packet.specs.Packet as packet
 use Rattle.vchan_packet.specs.Packet.{send_told, sent_to}
 use Rattle.vchan_packet.specs.declared.SendAnswer.{SendAnswer}
 use Rattle.vchan_packet.specs.declared.SendAnswer.TheVariants.{Sent, NoRoom, PeerClosed}
-use Rattle.vchan_packet.proofs.FailingLaws.{fails-to-send, no-room-sends-none, shut-sends-none, sent-no-more}
+use Rattle.vchan_packet.proofs.FailingLaws.{fails_to_send, no_room_sends_none, shut_sends_none, sent_no_more}
 use Rattle.qrexec_frame.specs.declared.message.Message.{Message}
 use Rattle.qrexec_frame.specs.declared.message.Message.TheVariants.{Hello}
 use Rattle.qrexec_frame.specs.Messages.{written}
 use Rattle.control_port.specs.Port.{PortState, SentWhole}
-use Rattle.control_port.proofs.DrainLaws.{got-more}
+use Rattle.control_port.proofs.DrainLaws.{got_more}
 use Rattle.task_duties.specs.declared.done.ControlEnd.{ControlEnd}
 use Rattle.channel_session.specs.Turning.{KeepsBytes}
-use Rattle.channel_session.proofs.KeepingLaws.{keeps-all, keeps-then}
+use Rattle.channel_session.proofs.KeepingLaws.{keeps_all, keeps_then}
 use Rattle.agent_task.specs.declared.agent.Agent.{Agent}
 use Rattle.agent_task.specs.Standing.{KeepsPort}
 use Rattle.agent_task.specs.Ending.{end_by}
@@ -36,91 +36,91 @@ use Rattle.agent_control.specs.declared.control.AgentControl.{AgentControl}
 use Rattle.agent_control.specs.Speaking.{SaysMore, Speaks}
 use Rattle.agent_task.specs.Moving.{Greets, WasSent, IsSent, IsUnsent, HearsNothing, Takes, Drains, Listens, SaysNoMore, HasNotGreeted, WasNotGreeted, HasStopped, TurnsControl, KeepsControl}
 
-pub greets-by : (old new : PortState) (answer : SendAnswer) → old.greeted ≡ false → (answer ≡ Sent → new.greeted ≡ true) × ((answer ≡ Sent → ⊥) → new.greeted ≡ false) → view new.end ≡ sent_to (view old.end) answer (written (Hello old.own))
+pub greets_by : (old new : PortState) (answer : SendAnswer) → old.greeted ≡ false → (answer ≡ Sent → new.greeted ≡ true) × ((answer ≡ Sent → ⊥) → new.greeted ≡ false) → view new.end ≡ sent_to (view old.end) answer (written (Hello old.own))
     → Trace (standing_of old.end.side) (Send (most_asked (written (Hello old.own)))) new.end.side.trail (send_told (most_asked (written (Hello old.own))) answer)
     → ((other : SendAnswer) → (answer ≡ other) ↔ SendCause (standing_of old.end.side) (most_asked (written (Hello old.own))) (loads_of (standing_of old.end.side) new.end.side.trail) (send_told (most_asked (written (Hello old.own))) other))
     → Greets old new
-greets-by old new Sent first greeted is trail cause = IsSent first is
-greets-by old new (NoRoom prod cons) first greeted is trail cause =
-    let none = no-room-sends-none (NoRoom prod cons) prod cons refl in IsUnsent (greeted.1 none) (fails-to-send old.end new.end (written (Hello old.own)) (NoRoom prod cons) none is trail cause)
-greets-by old new PeerClosed first greeted is trail cause =
-    let none = shut-sends-none PeerClosed refl in IsUnsent (greeted.1 none) (fails-to-send old.end new.end (written (Hello old.own)) PeerClosed none is trail cause)
+greets_by old new Sent first greeted is trail cause = IsSent first is
+greets_by old new (NoRoom prod cons) first greeted is trail cause =
+    let none = no_room_sends_none (NoRoom prod cons) prod cons refl in IsUnsent (greeted.1 none) (fails_to_send old.end new.end (written (Hello old.own)) (NoRoom prod cons) none is trail cause)
+greets_by old new PeerClosed first greeted is trail cause =
+    let none = shut_sends_none PeerClosed refl in IsUnsent (greeted.1 none) (fails_to_send old.end new.end (written (Hello old.own)) PeerClosed none is trail cause)
 
-takes-by : (old new : SeatedEnd) (drained : DrainAnswer) (before after : List ℕ) (saw : Bool) → 0 < length before → length after ≡ length before → view new ≡ drained_to (view old) drained after saw
+takes_by : (old new : SeatedEnd) (drained : DrainAnswer) (before after : List ℕ) (saw : Bool) → 0 < length before → length after ≡ length before → view new ≡ drained_to (view old) drained after saw
     → Trace (standing_of old.side) (Drain (most_asked before)) new.side.trail (drain_told drained)
     → ((other : DrainAnswer) → (drained ≡ other) ↔ DrainCause (standing_of old.side) (most_asked before) (loads_of (standing_of old.side) new.side.trail) (drain_told other)) → Takes drained old new
-takes-by old new (More count) before after saw some long is trail cause = got-more old new count before after saw some long is ((cause (More count)).0 refl)
-takes-by old new (NotYet prod cons) before after saw some long is trail cause =
+takes_by old new (More count) before after saw some long is trail cause = got_more old new count before after saw some long is ((cause (More count)).0 refl)
+takes_by old new (NotYet prod cons) before after saw some long is trail cause =
     (record { most = most_asked before; some = omega (arith, some); prod = prod; cons = cons; trail = trail; cause = (cause (NotYet prod cons)).0 refl }, ap (λ (v : EndView). v.got) is)
-takes-by old new AllRead before after saw some long is trail cause = tt
-takes-by old new (PeerGone prod cons) before after saw some long is trail cause = tt
+takes_by old new AllRead before after saw some long is trail cause = tt
+takes_by old new (PeerGone prod cons) before after saw some long is trail cause = tt
 
-pub drains-by : (old new : SeatedEnd) (drained : DrainAnswer) (before after : List ℕ) (saw : Bool) → 0 < length before → length after ≡ length before → view new ≡ drained_to (view old) drained after saw
+pub drains_by : (old new : SeatedEnd) (drained : DrainAnswer) (before after : List ℕ) (saw : Bool) → 0 < length before → length after ≡ length before → view new ≡ drained_to (view old) drained after saw
     → Trace (standing_of old.side) (Drain (most_asked before)) new.side.trail (drain_told drained)
     → ((other : DrainAnswer) → (drained ≡ other) ↔ DrainCause (standing_of old.side) (most_asked before) (loads_of (standing_of old.side) new.side.trail) (drain_told other)) → Drains drained old new
-drains-by old new drained before after saw some long is trail cause = record {
-  takes = takes-by old new drained before after saw some long is trail cause;
-  got = subst (λ (v : EndView). length (view old).got ≤ length v.got) (sym is) (drained-got (view old) drained after saw);
-  sent = ap (λ (v : EndView). v.sent) is ∙ drained-sent (view old) drained after saw;
+drains_by old new drained before after saw some long is trail cause = record {
+  takes = takes_by old new drained before after saw some long is trail cause;
+  got = subst (λ (v : EndView). length (view old).got ≤ length v.got) (sym is) (drained_got (view old) drained after saw);
+  sent = ap (λ (v : EndView). v.sent) is ∙ drained_sent (view old) drained after saw;
 }
 
 -- the drain of a channel that is up
-greets-sent : (old new : PortState) → Greets old new → length (view old.end).sent ≤ length (view new.end).sent
-greets-sent old new (WasSent before same) = subst (λ (p : PortState). length (view old.end).sent ≤ length (view p.end).sent) (sym same) (omega arith)
-greets-sent old new (IsSent before is) =
+greets_sent : (old new : PortState) → Greets old new → length (view old.end).sent ≤ length (view new.end).sent
+greets_sent old new (WasSent before same) = subst (λ (p : PortState). length (view old.end).sent ≤ length (view p.end).sent) (sym same) (omega arith)
+greets_sent old new (IsSent before is) =
     subst (λ (v : EndView). length (view old.end).sent ≤ length v.sent) (sym is) (omega (arith, length-append (view old.end).sent (written (Hello old.own))))
-greets-sent old new (IsUnsent after fails) =
-    subst (λ (l : List ℕ). length (view old.end).sent ≤ length l) (sym (sent-no-more (written (Hello old.own)) old.end new.end fails)) (omega arith)
+greets_sent old new (IsUnsent after fails) =
+    subst (λ (l : List ℕ). length (view old.end).sent ≤ length l) (sym (sent_no_more (written (Hello old.own)) old.end new.end fails)) (omega arith)
 
-found-by : (old greeted : PortState) (heard : SeatedEnd) (drained : DrainAnswer) → Greets old greeted → (view greeted.end).got ≡ (view old.end).got → Takes drained greeted.end heard → end_by drained ≡ None
+found_by : (old greeted : PortState) (heard : SeatedEnd) (drained : DrainAnswer) → Greets old greeted → (view greeted.end).got ≡ (view old.end).got → Takes drained greeted.end heard → end_by drained ≡ None
     → (length (view old.end).got < length (view heard).got) ⊎ HearsNothing old heard
-found-by old greeted heard (More count) greets got takes up = inl (subst (λ (l : List ℕ). length l < length (view heard).got) got takes)
-found-by old greeted heard (NotYet prod cons) greets got takes up = inr (record { greeted = greeted; greets = greets; not_yet = takes.0; none = takes.1 ∙ got })
-found-by old greeted heard AllRead greets got takes up = cc
-found-by old greeted heard (PeerGone prod cons) greets got takes up = cc
+found_by old greeted heard (More count) greets got takes up = inl (subst (λ (l : List ℕ). length l < length (view heard).got) got takes)
+found_by old greeted heard (NotYet prod cons) greets got takes up = inr (record { greeted = greeted; greets = greets; not_yet = takes.0; none = takes.1 ∙ got })
+found_by old greeted heard AllRead greets got takes up = cc
+found_by old greeted heard (PeerGone prod cons) greets got takes up = cc
 
-pub listens-by : (old greeted : PortState) (heard : SeatedEnd) (drained : DrainAnswer) → Greets old greeted → (view greeted.end).got ≡ (view old.end).got → Drains drained greeted.end heard → end_by drained ≡ None → Listens old heard
-listens-by old greeted heard drained greets got drains up = record {
-  found = found-by old greeted heard drained greets got drains.takes up;
-  sent = subst (λ (l : List ℕ). length (view old.end).sent ≤ length l) (sym drains.sent) (greets-sent old greeted greets);
+pub listens_by : (old greeted : PortState) (heard : SeatedEnd) (drained : DrainAnswer) → Greets old greeted → (view greeted.end).got ≡ (view old.end).got → Drains drained greeted.end heard → end_by drained ≡ None → Listens old heard
+listens_by old greeted heard drained greets got drains up = record {
+  found = found_by old greeted heard drained greets got drains.takes up;
+  sent = subst (λ (l : List ℕ). length (view old.end).sent ≤ length l) (sym drains.sent) (greets_sent old greeted greets);
 }
 
 -- and whether or not it is up after that, no byte is taken back
-pub listens-keep : (old greeted : PortState) (heard end : SeatedEnd) (drained : DrainAnswer) → Greets old greeted → (view greeted.end).got ≡ (view old.end).got → Drains drained greeted.end heard → KeepsBytes (view heard) (view end)
+pub listens_keep : (old greeted : PortState) (heard end : SeatedEnd) (drained : DrainAnswer) → Greets old greeted → (view greeted.end).got ≡ (view old.end).got → Drains drained greeted.end heard → KeepsBytes (view heard) (view end)
     → KeepsBytes (view old.end) (view end)
-listens-keep old greeted heard end drained greets got drains settles =
+listens_keep old greeted heard end drained greets got drains settles =
     let same = ap (λ (l : List ℕ). length l) got in
     let none = ap (λ (l : List ℕ). length l) drains.sent in
-    record { got = omega (arith, same, drains.got, settles.got); sent = omega (arith, none, greets-sent old greeted greets, settles.sent) }
+    record { got = omega (arith, same, drains.got, settles.got); sent = omega (arith, none, greets_sent old greeted greets, settles.sent) }
 
 -- ---- what was sent before stays so
 
-flat-more : (xs ys : List Message) → length (flat_map written xs) ≤ length (flat_map written (xs ++ ys))
-flat-more [] ys = omega arith
-flat-more (x ∷ xs) ys =
-    let more = flat-more xs ys in omega (arith, more, length-append (written x) (flat_map written xs), length-append (written x) (flat_map written (xs ++ ys)))
+flat_more : (xs ys : List Message) → length (flat_map written xs) ≤ length (flat_map written (xs ++ ys))
+flat_more [] ys = omega arith
+flat_more (x ∷ xs) ys =
+    let more = flat_more xs ys in omega (arith, more, length-append (written x) (flat_map written xs), length-append (written x) (flat_map written (xs ++ ys)))
 
-sent-whole : (greeted : Bool) (own : ℕ) (said more : List Message) (old new : List ℕ) → SentWhole greeted own said old → SentWhole greeted own (said ++ more) new → length old ≤ length new
-sent-whole false own said more old new before after = subst (λ (l : List ℕ). length l ≤ length new) (sym before.0) (omega arith)
-sent-whole true own said more old new before after =
+sent_whole : (greeted : Bool) (own : ℕ) (said more : List Message) (old new : List ℕ) → SentWhole greeted own said old → SentWhole greeted own (said ++ more) new → length old ≤ length new
+sent_whole false own said more old new before after = subst (λ (l : List ℕ). length l ≤ length new) (sym before.0) (omega arith)
+sent_whole true own said more old new before after =
     subst (λ (l : List ℕ). length l ≤ length new) (sym before)
-    (subst (λ (l : List ℕ). length (flat_map written (Hello own ∷ said)) ≤ length l) (sym after) (flat-more (Hello own ∷ said) more))
+    (subst (λ (l : List ℕ). length (flat_map written (Hello own ∷ said)) ≤ length l) (sym after) (flat_more (Hello own ∷ said) more))
 
-pub says-on : (old new : AgentControl) (calls : ℕ) (heard said : List Message) → SaysMore calls old new → Speaks old heard said → length (view old.port.end).sent ≤ length (view new.port.end).sent
-says-on old new calls heard said says speaks =
+pub says_on : (old new : AgentControl) (calls : ℕ) (heard said : List Message) → SaysMore calls old new → Speaks old heard said → length (view old.port.end).sent ≤ length (view new.port.end).sent
+says_on old new calls heard said says speaks =
     let more = says.speaks heard said speaks in
-    sent-whole old.port.greeted old.port.own said more.0 (view old.port.end).sent (view new.port.end).sent speaks.said_is.whole
+    sent_whole old.port.greeted old.port.own said more.0 (view old.port.end).sent (view new.port.end).sent speaks.said_is.whole
     (subst (λ (p : PortState). SentWhole p.greeted p.own (said ++ more.0) (view new.port.end).sent) says.port.0 more.1.said_is.whole)
 
-pub over-not-up : (A : Type 0) (over : Option ControlEnd) → is_some over ≡ true → over ≡ None → A
-over-not-up A None some none = cc
-over-not-up A (Some how) some none = cc
+pub over_not_up : (A : Type 0) (over : Option ControlEnd) → is_some over ≡ true → over ≡ None → A
+over_not_up A None some none = cc
+over_not_up A (Some how) some none = cc
 
 -- the whole turn, if the channel is up after it
-pub turns-control : (old mid turned new : Agent) (calls : ℕ) → (mid.over ≡ None → Listens old.control.port mid.control.port.end) → (mid.over ≡ None → IsSameEnd old.control.port.end mid.control.port.end)
+pub turns_control : (old mid turned new : Agent) (calls : ℕ) → (mid.over ≡ None → Listens old.control.port mid.control.port.end) → (mid.over ≡ None → IsSameEnd old.control.port.end mid.control.port.end)
     → mid.control.queue.next ≡ old.control.queue.next → KeepsPort mid turned → turned.control.queue.next ≡ mid.control.queue.next → SaysNoMore calls turned.control new.control → new.over ≡ turned.over → new.over ≡ None
     → TurnsControl calls old.control new.control
-turns-control old mid turned new calls listens end next keeps kept says same up =
+turns_control old mid turned new calls listens end next keeps kept says same up =
     let still : mid.over ≡ None = sym keeps.1.1 ∙ sym same ∙ up in record {
       waiting = turned.control;
       same = subst (λ (p : PortState). IsSameEnd old.control.port.end p.end) (sym keeps.0) (end still);
@@ -132,30 +132,30 @@ turns-control old mid turned new calls listens end next keeps kept says same up 
 -- ---- whether or not the channel is up
 
 -- what is said takes no byte back
-says-keep : (calls : ℕ) (old new : AgentControl) → SaysNoMore calls old new → KeepsBytes (view old.port.end) (view new.port.end)
-says-keep calls old new (HasNotGreeted is same) = subst (λ (c : AgentControl). KeepsBytes (view old.port.end) (view c.port.end)) (sym same) (keeps-all (view old.port.end))
-says-keep calls old new (WasNotGreeted is same) = subst (λ (c : AgentControl). KeepsBytes (view old.port.end) (view c.port.end)) (sym same) (keeps-all (view old.port.end))
-says-keep calls old new (HasStopped more sent stops) = record { got = let same = ap (λ (l : List ℕ). length l) more.port.2 in omega (arith, same); sent = sent }
+says_keep : (calls : ℕ) (old new : AgentControl) → SaysNoMore calls old new → KeepsBytes (view old.port.end) (view new.port.end)
+says_keep calls old new (HasNotGreeted is same) = subst (λ (c : AgentControl). KeepsBytes (view old.port.end) (view c.port.end)) (sym same) (keeps_all (view old.port.end))
+says_keep calls old new (WasNotGreeted is same) = subst (λ (c : AgentControl). KeepsBytes (view old.port.end) (view c.port.end)) (sym same) (keeps_all (view old.port.end))
+says_keep calls old new (HasStopped more sent stops) = record { got = let same = ap (λ (l : List ℕ). length l) more.port.2 in omega (arith, same); sent = sent }
 
-pub control-same : (over over' : Option ControlEnd) (old new : AgentControl) → over' ≡ over → new.port ≡ old.port → KeepsControl over over' old new
-control-same over over' old new same port = record {
-  bytes = subst (λ (p : PortState). KeepsBytes (view old.port.end) (view p.end)) (sym port) (keeps-all (view old.port.end));
+pub control_same : (over over' : Option ControlEnd) (old new : AgentControl) → over' ≡ over → new.port ≡ old.port → KeepsControl over over' old new
+control_same over over' old new same port = record {
+  bytes = subst (λ (p : PortState). KeepsBytes (view old.port.end) (view p.end)) (sym port) (keeps_all (view old.port.end));
   over = λ how was. (same ∙ was, port);
 }
 
 -- a step of a channel that is up
-pub control-heard : (over over' : Option ControlEnd) (old new : AgentControl) → is_some over ≡ false → KeepsBytes (view old.port.end) (view new.port.end) → KeepsControl over over' old new
-control-heard over over' old new up bytes = record { bytes = bytes; over = λ how was. never (sym (ap (λ (o : Option ControlEnd). is_some o) was) ∙ up) }
+pub control_heard : (over over' : Option ControlEnd) (old new : AgentControl) → is_some over ≡ false → KeepsBytes (view old.port.end) (view new.port.end) → KeepsControl over over' old new
+control_heard over over' old new up bytes = record { bytes = bytes; over = λ how was. never (sym (ap (λ (o : Option ControlEnd). is_some o) was) ∙ up) }
   where
     never : {A : Type 0} → true ≡ false → A
     never e = cc
 
-pub control-said : (over over' : Option ControlEnd) (calls : ℕ) (old new : AgentControl) → is_some over ≡ false → SaysNoMore calls old new → KeepsControl over over' old new
-control-said over over' calls old new up says = control-heard over over' old new up (says-keep calls old new says)
+pub control_said : (over over' : Option ControlEnd) (calls : ℕ) (old new : AgentControl) → is_some over ≡ false → SaysNoMore calls old new → KeepsControl over over' old new
+control_said over over' calls old new up says = control_heard over over' old new up (says_keep calls old new says)
 
-pub control-then : (o1 o2 o3 o4 : Option ControlEnd) (a b c d : AgentControl) → KeepsControl o1 o2 a b → KeepsControl o2 o3 b c → KeepsControl o3 o4 c d → KeepsControl o1 o4 a d
-control-then o1 o2 o3 o4 a b c d one two three = record {
-  bytes = keeps-then (view a.port.end) (view b.port.end) (view d.port.end) one.bytes (keeps-then (view b.port.end) (view c.port.end) (view d.port.end) two.bytes three.bytes);
+pub control_then : (o1 o2 o3 o4 : Option ControlEnd) (a b c d : AgentControl) → KeepsControl o1 o2 a b → KeepsControl o2 o3 b c → KeepsControl o3 o4 c d → KeepsControl o1 o4 a d
+control_then o1 o2 o3 o4 a b c d one two three = record {
+  bytes = keeps_then (view a.port.end) (view b.port.end) (view d.port.end) one.bytes (keeps_then (view b.port.end) (view c.port.end) (view d.port.end) two.bytes three.bytes);
   over = λ how was.
       let first = one.over how was in
       let second = two.over how first.0 in

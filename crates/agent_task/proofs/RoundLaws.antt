@@ -6,7 +6,7 @@ use Rattle.qrexec_frame.specs.declared.message.Message.{Message}
 use Rattle.qrexec_data.specs.declared.fault.SessionFault.{SessionFault}
 use Rattle.vchan_rule.specs.Seated.{view, IsOpen}
 use Rattle.vchan_rule.specs.Ends.{IsSameEnd}
-use Rattle.vchan_rule.proofs.EndLaws.{same-end-then}
+use Rattle.vchan_rule.proofs.EndLaws.{same_end_then}
 use Rattle.vchan_lifecycle.specs.Lifecycle.{retired_view}
 use Rattle.vchan_lifecycle.specs.declared.DrainAnswer.{DrainAnswer}
 use Rattle.end_view.specs.EndView.{EndView}
@@ -25,61 +25,61 @@ use Rattle.agent_task.specs.declared.given.Given.{Given}
 use Rattle.agent_task.specs.Given.{data_ends}
 use Rattle.agent_task.specs.Standing.{IsHearing, HasHeardOut, IsUp, HasSameEnds, CanRest, CanGiveUp}
 use Rattle.agent_task.specs.Ending.{HasEnded, end_by, over_by, IsDrained, heard_at, IsOver, IsRunning, RunsAs}
-use Rattle.agent_task.proofs.PortLaws.{with_port, PortKeeps, port-stands, still-all}
-use Rattle.agent_task.proofs.KeptLaws.{kept-said, kept-still}
-use Rattle.agent_task.proofs.AskingLaws.{calls-said}
+use Rattle.agent_task.proofs.PortLaws.{with_port, PortKeeps, port_stands, still_all}
+use Rattle.agent_task.proofs.KeptLaws.{kept_said, kept_still}
+use Rattle.agent_task.proofs.AskingLaws.{calls_said}
 
 -- ---- open or over
 
-pub running-up : (a : Agent) → IsRunning a → a.over ≡ None → IsUp a
-running-up a running none = subst (λ (o : Option ControlEnd). RunsAs o a) none running
+pub running_up : (a : Agent) → IsRunning a → a.over ≡ None → IsUp a
+running_up a running none = subst (λ (o : Option ControlEnd). RunsAs o a) none running
 
-pub up-running : (a : Agent) → IsUp a → IsRunning a
-up-running a up = subst (λ (o : Option ControlEnd). RunsAs o a) (sym up.hearing.sound.up) up
+pub up_running : (a : Agent) → IsUp a → IsRunning a
+up_running a up = subst (λ (o : Option ControlEnd). RunsAs o a) (sym up.hearing.sound.up) up
 
-pub running-over : (a : Agent) (how : ControlEnd) → IsRunning a → a.over ≡ Some how → IsOver how a
-running-over a how running is = subst (λ (o : Option ControlEnd). RunsAs o a) is running
+pub running_over : (a : Agent) (how : ControlEnd) → IsRunning a → a.over ≡ Some how → IsOver how a
+running_over a how running is = subst (λ (o : Option ControlEnd). RunsAs o a) is running
 
-pub over-running : (a : Agent) (how : ControlEnd) → IsOver how a → IsRunning a
-over-running a how over = subst (λ (o : Option ControlEnd). RunsAs o a) (sym over.over_is) over
+pub over_running : (a : Agent) (how : ControlEnd) → IsOver how a → IsRunning a
+over_running a how over = subst (λ (o : Option ControlEnd). RunsAs o a) (sym over.over_is) over
 
 -- memory didn't run out in any turn of its sessions
-pub running-whole : (a : Agent) → IsRunning a → a.slots.spent ≡ false
-running-whole a running = by_over a.over refl
+pub running_whole : (a : Agent) → IsRunning a → a.slots.spent ≡ false
+running_whole a running = by_over a.over refl
   where
     by_over : (o : Option ControlEnd) → a.over ≡ o → a.slots.spent ≡ false
-    by_over None is = (running-up a running is).hearing.stands.slots.whole
-    by_over (Some how) is = (running-over a how running is).stands.slots.whole
+    by_over None is = (running_up a running is).hearing.stands.slots.whole
+    by_over (Some how) is = (running_over a how running is).stands.slots.whole
 
 -- ---- what can be given up
 
-pub hearing-rests : (a : Agent) → IsHearing a → CanGiveUp a
-hearing-rests a h = record {
+pub hearing_rests : (a : Agent) → IsHearing a → CanGiveUp a
+hearing_rests a h = record {
   control = h.stands.port.end;
   held = h.stands.slots.held;
   idle = h.sound.is_open.0;
   rests = subst (λ (o : Option ControlEnd). CanRest o (view a.control.port.end)) (sym h.sound.up) tt;
 }
 
-pub over-rests : (how : ControlEnd) (a : Agent) → IsOver how a → CanGiveUp a
-over-rests how a over = record {
+pub over_rests : (how : ControlEnd) (a : Agent) → IsOver how a → CanGiveUp a
+over_rests how a over = record {
   control = over.stands.port.end;
   held = over.stands.slots.held;
   idle = over.idle;
   rests = subst (λ (o : Option ControlEnd). CanRest o (view a.control.port.end)) (sym over.over_is) over.retired;
 }
 
-pub running-rests : (a : Agent) → IsRunning a → CanGiveUp a
-running-rests a running = by_over a.over refl
+pub running_rests : (a : Agent) → IsRunning a → CanGiveUp a
+running_rests a running = by_over a.over refl
   where
     by_over : (o : Option ControlEnd) → a.over ≡ o → CanGiveUp a
-    by_over None is = hearing-rests a (running-up a running is).hearing
-    by_over (Some how) is = over-rests how a (running-over a how running is)
+    by_over None is = hearing_rests a (running_up a running is).hearing
+    by_over (Some how) is = over_rests how a (running_over a how running is)
 
 -- it has the same ends, and its control end is open
-pub still-rests : (old new : Agent) → IsHearing old → HasSameEnds old new → IsSameEnd old.control.port.end new.control.port.end → IsOpen new.control.port.end → CanGiveUp new
-still-rests old new h same end opened = record {
-  control = subst (λ (g : Given). IsSameEnd g.control.value new.control.port.end) (sym same.0) (same-end-then old.given.control.value old.control.port.end new.control.port.end h.stands.port.end end);
+pub still_rests : (old new : Agent) → IsHearing old → HasSameEnds old new → IsSameEnd old.control.port.end new.control.port.end → IsOpen new.control.port.end → CanGiveUp new
+still_rests old new h same end opened = record {
+  control = subst (λ (g : Given). IsSameEnd g.control.value new.control.port.end) (sym same.0) (same_end_then old.given.control.value old.control.port.end new.control.port.end h.stands.port.end end);
   held = same.2 ∙ h.stands.slots.held ∙ ap (λ (g : Given). map held_at (data_ends g)) (sym same.0);
   idle = opened.0;
   rests = subst (λ (o : Option ControlEnd). CanRest o (view new.control.port.end)) (sym (same.1 ∙ h.sound.up)) tt;
@@ -87,8 +87,8 @@ still-rests old new h same end opened = record {
 
 -- ---- what is sent
 
-pub says-up : (a : Agent) (control : AgentControl) (calls : ℕ) → IsUp a → SaysMore calls a.control control → IsUp (record a { control = control })
-says-up a control calls up more =
+pub says_up : (a : Agent) (control : AgentControl) (calls : ℕ) → IsUp a → SaysMore calls a.control control → IsUp (record a { control = control })
+says_up a control calls up more =
     let h = up.hearing in
     let speaks = more.speaks h.heard h.said h.stands.speaks in
     record {
@@ -99,7 +99,7 @@ says-up a control calls up more =
           port = record {
             own = ap (λ (p : PortState). p.own) more.port.0 ∙ h.stands.port.own;
             talker = ap (λ (p : PortState). p.talker) more.port.0 ∙ h.stands.port.talker;
-            end = same-end-then a.given.control.value a.control.port.end control.port.end h.stands.port.end more.end;
+            end = same_end_then a.given.control.value a.control.port.end control.port.end h.stands.port.end more.end;
           };
           calls = record {
             calls = ap (λ l. map (λ x. x.call) l) more.asked ∙ h.stands.calls.calls;
@@ -112,26 +112,26 @@ says-up a control calls up more =
           quiet = λ none. let some : control.port.version ≡ Some more.can.version = more.can.version_is in cc;
         };
         keeps = (
-          kept-said a.over a.slots.called a.control.unsaid.items control.unsaid.items more.told a.slots.opened h.heard h.said speaks.0 calls more.unsaid speaks.2 h.keeps.0,
-          λ running. calls-said a.control.queue control.queue a.control.unsaid.items control.unsaid.items more.told a.slots.opened h.heard h.said speaks.0 calls more.unsaid speaks.2 more.opened more.asked h.stands.speaks.unsaid
+          kept_said a.over a.slots.called a.control.unsaid.items control.unsaid.items more.told a.slots.opened h.heard h.said speaks.0 calls more.unsaid speaks.2 h.keeps.0,
+          λ running. calls_said a.control.queue control.queue a.control.unsaid.items control.unsaid.items more.told a.slots.opened h.heard h.said speaks.0 calls more.unsaid speaks.2 more.opened more.asked h.stands.speaks.unsaid
               h.stands.speaks.asks more.next (h.keeps.1 running),
         );
         hears = more.heard h.heard h.hears;
         sound = record { fine = ap (λ (p : PortState). p.fault) more.port.0 ∙ h.sound.fine; is_open = more.can.is_open; up = h.sound.up };
       };
-      all = still-all a.control.port control.port h.heard more.port.2 (ap (λ (p : PortState). p.talker) more.port.0, ap (λ (p : PortState). p.own) more.port.0, ap (λ (p : PortState). p.version) more.port.0, ap (λ (p : PortState). p.fault) more.port.0) up.all;
+      all = still_all a.control.port control.port h.heard more.port.2 (ap (λ (p : PortState). p.talker) more.port.0, ap (λ (p : PortState). p.own) more.port.0, ap (λ (p : PortState). p.version) more.port.0, ap (λ (p : PortState). p.fault) more.port.0) up.all;
       going = more.port.1 ∙ up.going;
     }
 
 -- ---- the end of the channel
 
-pub none-over : (fault : Option SessionFault) (drained : DrainAnswer) → over_by fault drained ≡ None → (fault ≡ None) × (end_by drained ≡ None)
-none-over (Some f) drained is = cc
-none-over None drained is = (refl, is)
+pub none_over : (fault : Option SessionFault) (drained : DrainAnswer) → over_by fault drained ≡ None → (fault ≡ None) × (end_by drained ≡ None)
+none_over (Some f) drained is = cc
+none_over None drained is = (refl, is)
 
 -- nothing is wrong, and the drain finds no end
-pub goes-on : (a : Agent) (drained : DrainAnswer) → HasHeardOut a → IsDrained drained a → over_by a.control.port.fault drained ≡ None → IsUp a
-goes-on a drained out ended over = going (none-over a.control.port.fault drained over)
+pub goes_on : (a : Agent) (drained : DrainAnswer) → HasHeardOut a → IsDrained drained a → over_by a.control.port.fault drained ≡ None → IsUp a
+goes_on a drained out ended over = going (none_over a.control.port.fault drained over)
   where
     going : (a.control.port.fault ≡ None) × (end_by drained ≡ None) → IsUp a
     going (fine, none) = record {
@@ -154,22 +154,22 @@ pub record HungUp (old new : PortState) : Type 0 where
   pub said : (said : List Message) → HasSaid old said → HasSaid new said
   pub only : OnlySends old new
 
-heard-hung_up : (old new : PortState) → HungUp old new → heard_at new ≡ heard_at old
-heard-hung_up old new h =
+heard_hung_up : (old new : PortState) → HungUp old new → heard_at new ≡ heard_at old
+heard_hung_up old new h =
     ap (λ (e : EndView). hears new.own (may_hear new.talker) e.got) h.view_is
     ∙ ap (λ (p : PortState). hears p.own (may_hear p.talker) (view old.end).got) h.only
 
-all-hung_up : (old new : PortState) (heard : List Message) → HungUp old new → HasHeardAll old heard → HasHeardAll new heard
-all-hung_up old new heard h all =
-    heard-hung_up old new h ∙ all ∙ sym (ap (λ (p : PortState). record { version = p.version; messages = heard; fault = p.fault }) h.only)
+all_hung_up : (old new : PortState) (heard : List Message) → HungUp old new → HasHeardAll old heard → HasHeardAll new heard
+all_hung_up old new heard h all =
+    heard_hung_up old new h ∙ all ∙ sym (ap (λ (p : PortState). record { version = p.version; messages = heard; fault = p.fault }) h.only)
 
-control-over : (a : Agent) (port : PortState) (drained : DrainAnswer) (how : ControlEnd) (fault : Option SessionFault) → HungUp a.control.port port → HasHeardOut a → IsDrained drained a → a.control.port.fault ≡ fault
+control_over : (a : Agent) (port : PortState) (drained : DrainAnswer) (how : ControlEnd) (fault : Option SessionFault) → HungUp a.control.port port → HasHeardOut a → IsDrained drained a → a.control.port.fault ≡ fault
     → over_by fault drained ≡ Some how → ControlOver (view port.end) (heard_at port) how
-control-over a port drained how (Some f) hung out ended is over =
+control_over a port drained how (Some f) hung out ended is over =
     let how_is : Fault f ≡ how = cc in
     subst (λ (x : ControlEnd). ControlOver (view port.end) (heard_at port) x) how_is
-    (ap (λ (h : Heard). h.fault) (heard-hung_up a.control.port port hung ∙ out.all) ∙ is)
-control-over a port drained how None hung out ended is over = by_how (end_by drained) how over ended
+    (ap (λ (h : Heard). h.fault) (heard_hung_up a.control.port port hung ∙ out.all) ∙ is)
+control_over a port drained how None hung out ended is over = by_how (end_by drained) how over ended
   where
     by_how : (o : Option ControlEnd) (how : ControlEnd) → o ≡ Some how → HasEnded o (view a.control.port.end) → ControlOver (view port.end) (heard_at port) how
     by_how None how e h = cc
@@ -182,16 +182,16 @@ control-over a port drained how None hung out ended is over = by_how (end_by dra
     by_how (Some (Fault f)) how e h = absurd h
 
 -- a fault is what it is over by
-fault-over : (drained : DrainAnswer) (how : ControlEnd) (f : SessionFault) (fault : Option SessionFault) → fault ≡ Some f → over_by fault drained ≡ Some how → how ≡ Fault f
-fault-over drained how f None is over = cc
-fault-over drained how f (Some g) is over =
+fault_over : (drained : DrainAnswer) (how : ControlEnd) (f : SessionFault) (fault : Option SessionFault) → fault ≡ Some f → over_by fault drained ≡ Some how → how ≡ Fault f
+fault_over drained how f None is over = cc
+fault_over drained how f (Some g) is over =
     let same : g ≡ f = cc in
     let how_is : Fault g ≡ how = cc in
     sym how_is ∙ ap (λ (x : SessionFault). Fault x) same
 
-pub is-over : (a : Agent) (port : PortState) (drained : DrainAnswer) (how : ControlEnd) → HungUp a.control.port port → HasHeardOut a → IsDrained drained a → over_by a.control.port.fault drained ≡ Some how
+pub is_over : (a : Agent) (port : PortState) (drained : DrainAnswer) (how : ControlEnd) → HungUp a.control.port port → HasHeardOut a → IsDrained drained a → over_by a.control.port.fault drained ≡ Some how
     → IsOver how (record (with_port a port) { over = Some how })
-is-over a port drained how hung out ended over =
+is_over a port drained how hung out ended over =
     let keeps : PortKeeps a.control.port port out.said = record {
       end = hung.end;
       own = ap (λ (p : PortState). p.own) hung.only;
@@ -199,15 +199,15 @@ is-over a port drained how hung out ended over =
       version = λ v is. ap (λ (p : PortState). p.version) hung.only ∙ is;
       said_is = hung.said out.said out.stands.speaks.said_is;
     } in
-    let stands = port-stands a port out.heard out.said keeps out.stands in
+    let stands = port_stands a port out.heard out.said keeps out.stands in
     record {
       heard = out.heard;
       said = out.said;
       stands = record { port = stands.port; calls = stands.calls; slots = stands.slots; answers = stands.answers; asked_for = stands.asked_for; speaks = stands.speaks; quiet = stands.quiet };
-      keeps = (kept-still a.over how a.slots.called a.control.unsaid.items a.slots.opened out.heard out.said out.keeps.0, λ up. absurd (never up));
-      all = all-hung_up a.control.port port out.heard hung out.all;
-      how_is = control-over a port drained how a.control.port.fault hung out ended refl over;
-      fault_is = λ f is. fault-over drained how f a.control.port.fault (sym (ap (λ (h : Heard). h.fault) (heard-hung_up a.control.port port hung ∙ out.all)) ∙ is) over;
+      keeps = (kept_still a.over how a.slots.called a.control.unsaid.items a.slots.opened out.heard out.said out.keeps.0, λ up. absurd (never up));
+      all = all_hung_up a.control.port port out.heard hung out.all;
+      how_is = control_over a port drained how a.control.port.fault hung out ended refl over;
+      fault_is = λ f is. fault_over drained how f a.control.port.fault (sym (ap (λ (h : Heard). h.fault) (heard_hung_up a.control.port port hung ∙ out.all)) ∙ is) over;
       over_is = refl;
       idle = ap (λ (v : EndView). v.idle) hung.view_is ∙ out.is_open.0;
       retired = ap (λ (v : EndView). v.retired) hung.view_is;

@@ -24,44 +24,44 @@ use Rattle.agent_task.specs.declared.given.Given.{Given}
 use Rattle.agent_task.specs.Starting.{IsNewQueue, IsNew}
 use Rattle.agent_task.specs.Standing.{called_of, IsServedBy, AreAskedFor}
 use Rattle.agent_task.specs.Ending.{IsRunning}
-use Rattle.agent_task.proofs.PortLaws.{same-end-is}
+use Rattle.agent_task.proofs.PortLaws.{same_end_is}
 use Rattle.task_duties.specs.declared.done.ControlEnd.{ControlEnd}
 use Rattle.data_slots.specs.Sides.{late_places}
 use Rattle.agent_task.specs.Ends.{AreKept}
 use Rattle.agent_task.specs.Asking.{CallsStand}
-use Rattle.agent_task.proofs.AskingLaws.{calls-fresh}
-use Rattle.agent_task.proofs.KeptLaws.{kept-first}
-use Rattle.agent_task.proofs.RoundLaws.{up-running}
+use Rattle.agent_task.proofs.AskingLaws.{calls_fresh}
+use Rattle.agent_task.proofs.KeptLaws.{kept_first}
+use Rattle.agent_task.proofs.RoundLaws.{up_running}
 
-fresh-asked : (calls : List CallPlan) → map asked_as (map fresh calls) ≡ map (λ call. record { call = call; answer = Waits }) calls
-fresh-asked [] = refl
-fresh-asked (c ∷ calls) = ap (λ (l : List Asked). record { call = c; answer = Waits } ∷ l) (fresh-asked calls)
+fresh_asked : (calls : List CallPlan) → map asked_as (map fresh calls) ≡ map (λ call. record { call = call; answer = Waits }) calls
+fresh_asked [] = refl
+fresh_asked (c ∷ calls) = ap (λ (l : List Asked). record { call = c; answer = Waits } ∷ l) (fresh_asked calls)
 
-fresh-calls : (calls : List CallPlan) → map (λ a. a.call) (map asked_as (map fresh calls)) ≡ calls
-fresh-calls [] = refl
-fresh-calls (c ∷ calls) = ap (λ l. c ∷ l) (fresh-calls calls)
+fresh_calls : (calls : List CallPlan) → map (λ a. a.call) (map asked_as (map fresh calls)) ≡ calls
+fresh_calls [] = refl
+fresh_calls (c ∷ calls) = ap (λ l. c ∷ l) (fresh_calls calls)
 
-fresh-called : (calls : List CallPlan) → replicate (length calls) None ≡ map called_of (map (λ call. record { call = call; answer = Waits }) calls)
-fresh-called [] = refl
-fresh-called (c ∷ calls) = ap (λ (l : List (Option Called)). None ∷ l) (fresh-called calls)
+fresh_called : (calls : List CallPlan) → replicate (length calls) None ≡ map called_of (map (λ call. record { call = call; answer = Waits }) calls)
+fresh_called [] = refl
+fresh_called (c ∷ calls) = ap (λ (l : List (Option Called)). None ∷ l) (fresh_called calls)
 
-open-first : (e : SeatedEnd) → IsUnused (view e) → (view e).role ≡ Server → IsOpen e
-open-first e unused server = (unused.idle, unused.state ∙ ap state_at_first server)
+open_first : (e : SeatedEnd) → IsUnused (view e) → (view e).role ≡ Server → IsOpen e
+open_first e unused server = (unused.idle, unused.state ∙ ap state_at_first server)
 
 -- where no bytes came, no message was heard
-none-heard : (p : PortState) → (view p.end).got ≡ [] → p.version ≡ None → p.fault ≡ None → HasHeardAll p []
-none-heard p got version fault =
+none_heard : (p : PortState) → (view p.end).got ≡ [] → p.version ≡ None → p.fault ≡ None → HasHeardAll p []
+none_heard p got version fault =
     ap (λ (bytes : List ℕ). hears p.own (may_hear p.talker) bytes) got
     ∙ sym (ap (λ (v : Option ℕ). record { version = v; messages = []; fault = p.fault }) version ∙ ap (λ (f : Option SessionFault). record { version = None; messages = []; fault = f }) fault)
 
 pub starts : (a : Agent) → IsNew a.given a.control.queue a.control.port a.slots → a.control.unsaid.items ≡ [] → a.over ≡ None → IsRunning a
-starts a new unsaid over = up-running a (record {
+starts a new unsaid over = up_running a (record {
   hearing = record {
     heard = [];
     said = [];
     stands = record {
-      port = record { own = new.port.own; talker = new.port.talker; end = same-end-is a.given.control.value a.control.port.end new.port.end };
-      calls = record { calls = ap (λ (q : QueueState). map (λ x. x.call) (asked_by q)) new.queue.queue_is ∙ fresh-calls calls; apart = new.queue.apart };
+      port = record { own = new.port.own; talker = new.port.talker; end = same_end_is a.given.control.value a.control.port.end new.port.end };
+      calls = record { calls = ap (λ (q : QueueState). map (λ x. x.call) (asked_by q)) new.queue.queue_is ∙ fresh_calls calls; apart = new.queue.apart };
       slots = record {
         domain = ap (λ (s : SlotsState). s.domain) new.slots;
         version = ap (λ (s : SlotsState). s.version) new.slots;
@@ -70,9 +70,9 @@ starts a new unsaid over = up-running a (record {
         apart = new.apart;
       };
       answers = record {
-        asked = ap asked_by new.queue.queue_is ∙ fresh-asked calls;
+        asked = ap asked_by new.queue.queue_is ∙ fresh_asked calls;
         unused = ap (λ (s : SlotsState). s.unused) new.slots;
-        called = ap (λ (s : SlotsState). s.called) new.slots ∙ fresh-called calls;
+        called = ap (λ (s : SlotsState). s.called) new.slots ∙ fresh_called calls;
         served = subst (λ l. EachPair IsServedBy [] l) (sym (ap (λ (s : SlotsState). s.served) new.slots)) tt;
       };
       asked_for = subst (λ l. AreAskedFor [] l) (sym (ap (λ (s : SlotsState). s.served) new.slots)) tt;
@@ -81,13 +81,13 @@ starts a new unsaid over = up-running a (record {
     };
     keeps = (
       subst (λ (o : Option ControlEnd). AreKept o a.slots.called a.control.unsaid.items a.slots.opened [] []) (sym over)
-          (kept-first calls a.slots.called a.control.unsaid.items a.slots.opened (ap (λ (s : SlotsState). s.called) new.slots ∙ fresh-called calls) unsaid (ap (λ (s : SlotsState). s.opened) new.slots)),
-      λ up. subst (λ (q : QueueState). CallsStand q a.control.unsaid.items a.slots.opened []) (sym new.queue.queue_is) (calls-fresh calls a.control.unsaid.items a.slots.opened []),
+          (kept_first calls a.slots.called a.control.unsaid.items a.slots.opened (ap (λ (s : SlotsState). s.called) new.slots ∙ fresh_called calls) unsaid (ap (λ (s : SlotsState). s.opened) new.slots)),
+      λ up. subst (λ (q : QueueState). CallsStand q a.control.unsaid.items a.slots.opened []) (sym new.queue.queue_is) (calls_fresh calls a.control.unsaid.items a.slots.opened []),
     );
     hears = new.port.heard;
-    sound = record { fine = new.port.fine; is_open = subst (λ (e : SeatedEnd). IsOpen e) (sym new.port.end) (open-first a.given.control.value new.port.unused new.port.server); up = over };
+    sound = record { fine = new.port.fine; is_open = subst (λ (e : SeatedEnd). IsOpen e) (sym new.port.end) (open_first a.given.control.value new.port.unused new.port.server); up = over };
   };
-  all = none-heard a.control.port (ap (λ (e : SeatedEnd). (view e).got) new.port.end ∙ new.port.unused.got) new.port.version new.port.fine;
+  all = none_heard a.control.port (ap (λ (e : SeatedEnd). (view e).got) new.port.end ∙ new.port.unused.got) new.port.version new.port.fine;
   going = ap (λ (e : SeatedEnd). (view e).ended) new.port.end ∙ new.port.unused.ended;
 })
   where
@@ -99,11 +99,11 @@ abbrev made : ℕ → ℕ → ℕ → List DataEnd → SlotsState
 made domain version count ends = record { domain = domain; version = version; held = map held_at (all_given ends); unused = places_in (all_given ends); late = late_places ends; called = replicate count None; served = []; opened = []; sessions = replicate (length ends) NotBegun; spent = false }
 
 -- what was given is known by its parts
-pub is-new : (g : Given) (q : QueueState) (p : PortState) (s : SlotsState) (count : ℕ) (calls : List CallPlan) (control : SeatedEnd) (payload : List DataEnd)
+pub is_new : (g : Given) (q : QueueState) (p : PortState) (s : SlotsState) (count : ℕ) (calls : List CallPlan) (control : SeatedEnd) (payload : List DataEnd)
     → g.calls.value.items ≡ calls → g.control.value ≡ control → g.payload.value.items ≡ payload → IsNewQueue calls q
     → (p.end ≡ control) × (p.talker ≡ OfAgent) × (p.own ≡ g.version) → (p.version ≡ None) × (p.fault ≡ None) → HasSaid p [] → HasHeard p []
     → s ≡ made g.domain g.version count payload → count ≡ length calls → IsUnused (view control) → (view control).role ≡ Server → AreApart (places_in (all_given payload)) → IsNew g q p s
-is-new g q p s count calls control payload calls_are control_is payload_is queue port new said heard slots many unused server apart = record {
+is_new g q p s count calls control payload calls_are control_is payload_is queue port new said heard slots many unused server apart = record {
   queue = subst (λ (l : List CallPlan). IsNewQueue l q) (sym calls_are) queue;
   port = record {
     end = port.0 ∙ sym control_is;

@@ -21,7 +21,7 @@ use Rattle.vchan_notify.specs.Notify.{HasFoundGone, asked_gone}
 use Rattle.vchan_packet.specs.Packet.{sent_to}
 use Rattle.vchan_packet.specs.declared.SendAnswer.{SendAnswer}
 use Rattle.vchan_packet.specs.declared.SendAnswer.TheVariants.{Sent, NoRoom, PeerClosed}
-use Rattle.vchan_packet.proofs.PacketLaws.{sent-got}
+use Rattle.vchan_packet.proofs.PacketLaws.{sent_got}
 use Rattle.call_broker.specs.declared.event.Event.{Event}
 use Rattle.control_port.specs.declared.talk.Talker.{Talker}
 use Rattle.control_port.specs.declared.talk.Talker.TheVariants.{Broker}
@@ -33,28 +33,26 @@ use Rattle.task_duties.specs.Broker.Owes.{broker_version}
 use Rattle.broker_task.specs.declared.daemon.Daemon.{Daemon}
 use Rattle.broker_task.specs.Lines.{end_of, is_shut, is_gone, HasSeenEnd, MayDrop, IsGoing, more_may_come, ReadsOn, HasRead, HandsOut, HasRoom}
 
--- ---- what a port has sent stays so while it hears
-
 -- ---- the event that a message is
 
 IsFromIf : ℕ → Option Event → Type 0
 IsFromIf d None = Unit {0}
 IsFromIf d (Some e) = is_from d e ≡ true
 
-pub event-from : (d : ℕ) (m : Message) (e : Event) → Some e ≡ event_of d m → is_from d e ≡ true
+pub event_from : (d : ℕ) (m : Message) (e : Event) → Some e ≡ event_of d m → is_from d e ≡ true
 unfolding IsFromIf
-event-from d (Trigger3 t i s) e is = let self : (d == d) ≡ true = grind (arith, nat_tests) in subst (IsFromIf d) (sym is) self
-event-from d (Trigger t i s) e is = let self : (d == d) ≡ true = grind (arith, nat_tests) in subst (IsFromIf d) (sym is) self
-event-from d (Terminated o p) e is = let self : (d == d) ≡ true = grind (arith, nat_tests) in subst (IsFromIf d) (sym is) self
-event-from d (Hello v) e is = cc
-event-from d (Exec x p l) e is = cc
-event-from d (JustExec x p l) e is = cc
-event-from d (Connect x p i) e is = cc
-event-from d (Refused i) e is = cc
-event-from d (Stdin b) e is = cc
-event-from d (Stdout b) e is = cc
-event-from d (Stderr b) e is = cc
-event-from d (ExitCode c) e is = cc
+event_from d (Trigger3 t i s) e is = let self : (d == d) ≡ true = grind (arith, nat_tests) in subst (IsFromIf d) (sym is) self
+event_from d (Trigger t i s) e is = let self : (d == d) ≡ true = grind (arith, nat_tests) in subst (IsFromIf d) (sym is) self
+event_from d (Terminated o p) e is = let self : (d == d) ≡ true = grind (arith, nat_tests) in subst (IsFromIf d) (sym is) self
+event_from d (Hello v) e is = cc
+event_from d (Exec x p l) e is = cc
+event_from d (JustExec x p l) e is = cc
+event_from d (Connect x p i) e is = cc
+event_from d (Refused i) e is = cc
+event_from d (Stdin b) e is = cc
+event_from d (Stdout b) e is = cc
+event_from d (Stderr b) e is = cc
+event_from d (ExitCode c) e is = cc
 
 HasRoomIf : Option Event → Type 0
 HasRoomIf None = Unit {0}
@@ -63,47 +61,47 @@ HasRoomIf (Some e) = HasRoom e
 wider : (a b : ℕ) (text : List ℕ) → a ≤ b → FitsText a text → FitsText b text
 wider a b text less fits = record { within = omega (arith, fits.within, less); no_nul = fits.no_nul }
 
-pub event-room : (d : ℕ) (m : Message) (e : Event) → Some e ≡ event_of d m → IsSpellable m → HasRoom e
+pub event_room : (d : ℕ) (m : Message) (e : Event) → Some e ≡ event_of d m → IsSpellable m → HasRoom e
 unfolding HasRoomIf
-event-room d (Trigger3 t i s) e is fits = subst HasRoomIf (sym is) (fits.0.1, fits.0.2)
-event-room d (Trigger t i s) e is fits = subst HasRoomIf (sym is) (fits.0.1, wider 63 65439 s (omega arith) fits.0.2)
-event-room d (Terminated o p) e is fits = subst HasRoomIf (sym is) tt
-event-room d (Hello v) e is fits = cc
-event-room d (Exec x p l) e is fits = cc
-event-room d (JustExec x p l) e is fits = cc
-event-room d (Connect x p i) e is fits = cc
-event-room d (Refused i) e is fits = cc
-event-room d (Stdin b) e is fits = cc
-event-room d (Stdout b) e is fits = cc
-event-room d (Stderr b) e is fits = cc
-event-room d (ExitCode c) e is fits = cc
+event_room d (Trigger3 t i s) e is fits = subst HasRoomIf (sym is) (fits.0.1, fits.0.2)
+event_room d (Trigger t i s) e is fits = subst HasRoomIf (sym is) (fits.0.1, wider 63 65439 s (omega arith) fits.0.2)
+event_room d (Terminated o p) e is fits = subst HasRoomIf (sym is) tt
+event_room d (Hello v) e is fits = cc
+event_room d (Exec x p l) e is fits = cc
+event_room d (JustExec x p l) e is fits = cc
+event_room d (Connect x p i) e is fits = cc
+event_room d (Refused i) e is fits = cc
+event_room d (Stdin b) e is fits = cc
+event_room d (Stdout b) e is fits = cc
+event_room d (Stderr b) e is fits = cc
+event_room d (ExitCode c) e is fits = cc
 
 -- ---- what is handed out
 
-filter_map-more : {A B : Type 0} (f : A → Option B) (xs : List A) (x : A) (y : B) → Some y ≡ f x → filter_map f xs ++ y ∷ [] ≡ filter_map f (xs ++ x ∷ [])
-filter_map-more {A} {B} f xs x y is = sym (filter_map-append f xs (x ∷ []) ∙ ap (λ r. filter_map f xs ++ r) (one (f x) is))
+filter_map_more : {A B : Type 0} (f : A → Option B) (xs : List A) (x : A) (y : B) → Some y ≡ f x → filter_map f xs ++ y ∷ [] ≡ filter_map f (xs ++ x ∷ [])
+filter_map_more {A} {B} f xs x y is = sym (filter_map-append f xs (x ∷ []) ∙ ap (λ r. filter_map f xs ++ r) (one (f x) is))
   where
     one : (o : Option B) → Some y ≡ f x → filter_map f (x ∷ []) ≡ y ∷ []
     one o is' = rw (← is') refl
 
-pub hands-event : (old new : Daemon) (events : List Event) (m : Message) (e : Event) → new.domain ≡ old.domain → ReadsOn old events → ((heard : List Message) → HasHeard old.port heard → Hands new.port heard (Some m))
+pub hands_event : (old new : Daemon) (events : List Event) (m : Message) (e : Event) → new.domain ≡ old.domain → ReadsOn old events → ((heard : List Message) → HasHeard old.port heard → Hands new.port heard (Some m))
     → Some e ≡ event_of old.domain m → IsSpellable m → HandsOut new events (Some e)
-hands-event old new events m e same reads hands is fits =
+hands_event old new events m e same reads hands is fits =
     let h = hands reads.heard reads.hears_them in
     let is_new : Some e ≡ event_of new.domain m = is ∙ ap (λ d. event_of d m) (sym same) in (
       record {
         heard = reads.heard ++ m ∷ [];
         hears_them = h.0;
-        are = ap (λ es. es ++ e ∷ []) (reads.are ∙ ap (λ d. filter_map (event_of d) reads.heard) (sym same)) ∙ filter_map-more (event_of new.domain) reads.heard m e is_new;
+        are = ap (λ es. es ++ e ∷ []) (reads.are ∙ ap (λ d. filter_map (event_of d) reads.heard) (sym same)) ∙ filter_map_more (event_of new.domain) reads.heard m e is_new;
         fine = h.3;
       },
-      event-from new.domain m e is_new,
-      event-room new.domain m e is_new fits,
+      event_from new.domain m e is_new,
+      event_room new.domain m e is_new fits,
     )
 
-pub hands-none : (old new : Daemon) (events : List Event) → new.domain ≡ old.domain → new.port.talker ≡ Broker → new.port.own ≡ broker_version → ReadsOn old events → ((heard : List Message) → HasHeard old.port heard → Hands new.port heard None)
+pub hands_none : (old new : Daemon) (events : List Event) → new.domain ≡ old.domain → new.port.talker ≡ Broker → new.port.own ≡ broker_version → ReadsOn old events → ((heard : List Message) → HasHeard old.port heard → Hands new.port heard None)
     → HandsOut new events None
-hands-none old new events same talker own reads hands =
+hands_none old new events same talker own reads hands =
     let h = hands reads.heard reads.hears_them in
     let are : events ≡ filter_map (event_of new.domain) reads.heard = reads.are ∙ ap (λ d. filter_map (event_of d) reads.heard) (sym same) in
     record {
@@ -124,9 +122,9 @@ hands-none old new events same talker own reads hands =
 
 -- ---- what was read stays so while a port sends
 
-pub read-still : (old new : Daemon) (events : List Event) → new.domain ≡ old.domain → (end_of new).got ≡ (end_of old).got → is_gone new ≡ is_gone old → new.port.fault ≡ old.port.fault → new.port.version ≡ old.port.version
+pub read_still : (old new : Daemon) (events : List Event) → new.domain ≡ old.domain → (end_of new).got ≡ (end_of old).got → is_gone new ≡ is_gone old → new.port.fault ≡ old.port.fault → new.port.version ≡ old.port.version
     → (IsGoing (end_of old) → IsGoing (end_of new)) → ((heard : List Message) → HasHeard old.port heard → HasHeard new.port heard) → HasRead old events → HasRead new events
-read-still old new events domain got gone fault version going hears_on h = record {
+read_still old new events domain got gone fault version going hears_on h = record {
   all = ap (λ (d : ℕ). filter_map (event_of d) (hears broker_version to_broker (end_of new).got).messages) domain ∙ ap (λ (g : List ℕ). filter_map (event_of old.domain) (hears broker_version to_broker g).messages) got ∙ h.all;
   version = ap (λ (g : List ℕ). (hears broker_version to_broker g).version) got ∙ h.version ∙ sym version;
   on = λ up. let o = h.on (sym gone ∙ up) in record {
@@ -139,46 +137,46 @@ read-still old new events domain got gone fault version going hears_on h = recor
   fine = λ up. ap (λ (g : List ℕ). (hears broker_version to_broker g).fault) got ∙ h.fine (sym gone ∙ up);
 }
 
-pub sent-going : (e : EndView) (answer : SendAnswer) (payload : List ℕ) → IsGoing e → IsGoing (sent_to e answer payload)
-sent-going e Sent payload h = h
-sent-going e (NoRoom prod cons) payload h = h
-sent-going e PeerClosed payload h = h
+pub sent_going : (e : EndView) (answer : SendAnswer) (payload : List ℕ) → IsGoing e → IsGoing (sent_to e answer payload)
+sent_going e Sent payload h = h
+sent_going e (NoRoom prod cons) payload h = h
+sent_going e PeerClosed payload h = h
 
-pub sent-state : (e : EndView) (answer : SendAnswer) (payload : List ℕ) → (sent_to e answer payload).state ≡ e.state
-sent-state e Sent payload = refl
-sent-state e (NoRoom prod cons) payload = refl
-sent-state e PeerClosed payload = refl
+pub sent_state : (e : EndView) (answer : SendAnswer) (payload : List ℕ) → (sent_to e answer payload).state ≡ e.state
+sent_state e Sent payload = refl
+sent_state e (NoRoom prod cons) payload = refl
+sent_state e PeerClosed payload = refl
 
 -- a port that has sent, or has found no room
-pub read-sending : (old new : Daemon) (events : List Event) (answer : SendAnswer) (payload : List ℕ) → new.domain ≡ old.domain → OnlySends old.port new.port → end_of new ≡ sent_to (end_of old) answer payload
+pub read_sending : (old new : Daemon) (events : List Event) (answer : SendAnswer) (payload : List ℕ) → new.domain ≡ old.domain → OnlySends old.port new.port → end_of new ≡ sent_to (end_of old) answer payload
     → ((heard : List Message) → HasHeard old.port heard → HasHeard new.port heard) → HasRead old events → HasRead new events
-read-sending old new events answer payload domain only is hears_on h =
-    read-still old new events domain (ap (λ (e : EndView). e.got) is ∙ sent-got (end_of old) answer payload) (ap (λ (e : EndView). is_shut e.state) is ∙ ap is_shut (sent-state (end_of old) answer payload))
-    (ap (λ (p : PortState). p.fault) only) (ap (λ (p : PortState). p.version) only) (λ g. subst IsGoing (sym is) (sent-going (end_of old) answer payload g)) hears_on h
+read_sending old new events answer payload domain only is hears_on h =
+    read_still old new events domain (ap (λ (e : EndView). e.got) is ∙ sent_got (end_of old) answer payload) (ap (λ (e : EndView). is_shut e.state) is ∙ ap is_shut (sent_state (end_of old) answer payload))
+    (ap (λ (p : PortState). p.fault) only) (ap (λ (p : PortState). p.version) only) (λ g. subst IsGoing (sym is) (sent_going (end_of old) answer payload g)) hears_on h
 
 -- ---- an end that has seen the end of its peer: a drain ended its stream, or it found its peer gone
 
-first-some : (o : Option EndedBy) (by : EndedBy) → IsSome (first_ended o (Some by))
-first-some None by = refl
-first-some (Some first) by = refl
+first_some : (o : Option EndedBy) (by : EndedBy) → IsSome (first_ended o (Some by))
+first_some None by = refl
+first_some (Some first) by = refl
 
-pub drained-over : (old new : EndView) (drained : DrainAnswer) (buf : List ℕ) (saw : Bool) (word : Option ℕ) → new ≡ drained_to old drained buf saw → more_may_come drained ≡ false
+pub drained_over : (old new : EndView) (drained : DrainAnswer) (buf : List ℕ) (saw : Bool) (word : Option ℕ) → new ≡ drained_to old drained buf saw → more_may_come drained ≡ false
     → MayDrop (record { view = new; gone = word })
-drained-over old new (More count) buf saw word is over = cc
-drained-over old new (NotYet prod cons) buf saw word is over = cc
-drained-over old new AllRead buf saw word is over =
-    inl (subst (λ (e : EndView). HasSeenEnd (record { view = e; gone = word })) (sym is) (record { saw = refl; how = inl (first-some old.ended ByAllRead) }))
-drained-over old new (PeerGone prod cons) buf saw word is over =
-    inl (subst (λ (e : EndView). HasSeenEnd (record { view = e; gone = word })) (sym is) (record { saw = refl; how = inl (first-some old.ended ByPeerGone) }))
+drained_over old new (More count) buf saw word is over = cc
+drained_over old new (NotYet prod cons) buf saw word is over = cc
+drained_over old new AllRead buf saw word is over =
+    inl (subst (λ (e : EndView). HasSeenEnd (record { view = e; gone = word })) (sym is) (record { saw = refl; how = inl (first_some old.ended ByAllRead) }))
+drained_over old new (PeerGone prod cons) buf saw word is over =
+    inl (subst (λ (e : EndView). HasSeenEnd (record { view = e; gone = word })) (sym is) (record { saw = refl; how = inl (first_some old.ended ByPeerGone) }))
 
-pub drained-going : (old new : EndView) (drained : DrainAnswer) (buf : List ℕ) (saw : Bool) → new ≡ drained_to old drained buf saw → more_may_come drained ≡ true → IsGoing old → IsGoing new
-drained-going old new (More count) buf saw is going h = subst IsGoing (sym is) h
-drained-going old new (NotYet prod cons) buf saw is going h = subst IsGoing (sym is) h
-drained-going old new AllRead buf saw is going h = cc
-drained-going old new (PeerGone prod cons) buf saw is going h = cc
+pub drained_going : (old new : EndView) (drained : DrainAnswer) (buf : List ℕ) (saw : Bool) → new ≡ drained_to old drained buf saw → more_may_come drained ≡ true → IsGoing old → IsGoing new
+drained_going old new (More count) buf saw is going h = subst IsGoing (sym is) h
+drained_going old new (NotYet prod cons) buf saw is going h = subst IsGoing (sym is) h
+drained_going old new AllRead buf saw is going h = cc
+drained_going old new (PeerGone prod cons) buf saw is going h = cc
 
-pub found-gone : (old new : EndView) (s : Side) (is : Bool) → new ≡ asked_gone old is → is ≡ true → IsTrue is ↔ HasFoundGone s → MayDrop (record { view = new; gone = s.notes.gone })
-found-gone old new s is new_is found noted = inl (record { saw = ap (λ (e : EndView). e.saw) new_is ∙ ap (λ (b : Bool). old.saw || b) found ∙ or-true old.saw; how = inr (noted.0 found) })
+pub found_gone : (old new : EndView) (s : Side) (is : Bool) → new ≡ asked_gone old is → is ≡ true → IsTrue is ↔ HasFoundGone s → MayDrop (record { view = new; gone = s.notes.gone })
+found_gone old new s is new_is found noted = inl (record { saw = ap (λ (e : EndView). e.saw) new_is ∙ ap (λ (b : Bool). old.saw || b) found ∙ or-true old.saw; how = inr (noted.0 found) })
 
-pub asked-going : (old new : EndView) (is : Bool) → new ≡ asked_gone old is → IsGoing old → IsGoing new
-asked-going old new is new_is h = subst IsGoing (sym new_is) h
+pub asked_going : (old new : EndView) (is : Bool) → new ≡ asked_gone old is → IsGoing old → IsGoing new
+asked_going old new is new_is h = subst IsGoing (sym new_is) h

@@ -9,36 +9,36 @@ mapped f [] n = []
 mapped f (x ∷ xs) zero = x ∷ xs
 mapped f (x ∷ xs) (suc n) = f x ∷ mapped f xs n
 
-pub mapped-none : {A : Type 0} (f : A → A) (xs : List A) → mapped f xs 0 ≡ xs
-mapped-none f [] = refl
-mapped-none f (x ∷ xs) = refl
+pub mapped_none : {A : Type 0} (f : A → A) (xs : List A) → mapped f xs 0 ≡ xs
+mapped_none f [] = refl
+mapped_none f (x ∷ xs) = refl
 
-pub mapped-all : {A : Type 0} (f : A → A) (xs : List A) → mapped f xs (length xs) ≡ map f xs
-mapped-all f [] = refl
-mapped-all f (x ∷ xs) = ap (λ r. f x ∷ r) (mapped-all f xs)
+pub mapped_all : {A : Type 0} (f : A → A) (xs : List A) → mapped f xs (length xs) ≡ map f xs
+mapped_all f [] = refl
+mapped_all f (x ∷ xs) = ap (λ r. f x ∷ r) (mapped_all f xs)
 
-pub mapped-next : {A : Type 0} (f : A → A) (xs : List A) (n : ℕ) (x : A) → n < length xs → x ≡ get_or (mapped f xs n) n x → set (mapped f xs n) n (f x) ≡ mapped f xs (suc n)
-mapped-next f [] n x less is = absurd (omega (arith, less))
-mapped-next f (y ∷ xs) zero x less is = ap (λ z. f z ∷ xs) is ∙ ap (λ r. f y ∷ r) (sym (mapped-none f xs))
-mapped-next f (y ∷ xs) (suc n) x less is = ap (λ r. f y ∷ r) (mapped-next f xs n x (omega (arith, less)) is)
+pub mapped_next : {A : Type 0} (f : A → A) (xs : List A) (n : ℕ) (x : A) → n < length xs → x ≡ get_or (mapped f xs n) n x → set (mapped f xs n) n (f x) ≡ mapped f xs (suc n)
+mapped_next f [] n x less is = absurd (omega (arith, less))
+mapped_next f (y ∷ xs) zero x less is = ap (λ z. f z ∷ xs) is ∙ ap (λ r. f y ∷ r) (sym (mapped_none f xs))
+mapped_next f (y ∷ xs) (suc n) x less is = ap (λ r. f y ∷ r) (mapped_next f xs n x (omega (arith, less)) is)
 
 -- ---- elements at their places
 
-pub at-mapped : {A B : Type 0} (f : A → B) (xs : List A) (i : ℕ) (y : B) → IsAt (map f xs) i y → (x : A) × IsAt xs i x × (y ≡ f x)
-at-mapped f [] i y at = absurd (omega (arith, at.within))
-at-mapped f (x ∷ xs) zero y at = (x, record { within = omega arith; is = refl }, at.is)
-at-mapped f (x ∷ xs) (suc i) y at =
-    let rest = at-mapped f xs i y (record { within = omega (arith, at.within); is = at.is }) in
+pub at_mapped : {A B : Type 0} (f : A → B) (xs : List A) (i : ℕ) (y : B) → IsAt (map f xs) i y → (x : A) × IsAt xs i x × (y ≡ f x)
+at_mapped f [] i y at = absurd (omega (arith, at.within))
+at_mapped f (x ∷ xs) zero y at = (x, record { within = omega arith; is = refl }, at.is)
+at_mapped f (x ∷ xs) (suc i) y at =
+    let rest = at_mapped f xs i y (record { within = omega (arith, at.within); is = at.is }) in
     (rest.0, record { within = omega (arith, rest.1.within); is = rest.1.is }, rest.2)
 
-pub mapped-at : {A B : Type 0} (f : A → B) (xs : List A) (i : ℕ) (x : A) → IsAt xs i x → IsAt (map f xs) i (f x)
-mapped-at f [] i x at = absurd (omega (arith, at.within))
-mapped-at f (y ∷ xs) zero x at = record { within = omega arith; is = ap f at.is }
-mapped-at f (y ∷ xs) (suc i) x at =
-    let rest = mapped-at f xs i x (record { within = omega (arith, at.within); is = at.is }) in
+pub mapped_at : {A B : Type 0} (f : A → B) (xs : List A) (i : ℕ) (x : A) → IsAt xs i x → IsAt (map f xs) i (f x)
+mapped_at f [] i x at = absurd (omega (arith, at.within))
+mapped_at f (y ∷ xs) zero x at = record { within = omega arith; is = ap f at.is }
+mapped_at f (y ∷ xs) (suc i) x at =
+    let rest = mapped_at f xs i x (record { within = omega (arith, at.within); is = at.is }) in
     record { within = omega (arith, rest.within); is = rest.is }
 
-pub at-one : {A : Type 0} (xs : List A) (i : ℕ) (x y : A) → IsAt xs i x → IsAt xs i y → x ≡ y
-at-one [] i x y a b = absurd (omega (arith, a.within))
-at-one (z ∷ xs) zero x y a b = a.is ∙ sym b.is
-at-one (z ∷ xs) (suc i) x y a b = at-one xs i x y (record { within = omega (arith, a.within); is = a.is }) (record { within = omega (arith, b.within); is = b.is })
+pub at_one : {A : Type 0} (xs : List A) (i : ℕ) (x y : A) → IsAt xs i x → IsAt xs i y → x ≡ y
+at_one [] i x y a b = absurd (omega (arith, a.within))
+at_one (z ∷ xs) zero x y a b = a.is ∙ sym b.is
+at_one (z ∷ xs) (suc i) x y a b = at_one xs i x y (record { within = omega (arith, a.within); is = a.is }) (record { within = omega (arith, b.within); is = b.is })

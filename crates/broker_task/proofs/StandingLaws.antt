@@ -24,7 +24,7 @@ use Rattle.task_duties.specs.Places.{numbers}
 use Rattle.task_duties.specs.Hearing.{to_agent, to_broker, IsSaid, hears}
 use Rattle.task_duties.specs.Broker.Outbox.{outbox, event_of, read_from, answered, live_calls}
 use Rattle.task_duties.specs.Broker.Owes.{broker_version, awaited_of}
-use Rattle.task_duties.proofs.Elements.{each-at, has-from}
+use Rattle.task_duties.proofs.Elements.{each_at, has_from}
 use Rattle.broker_task.specs.declared.letter.Letter.{Letter}
 use Rattle.broker_task.specs.declared.daemon.Daemon.{Daemon}
 use Rattle.broker_task.specs.declared.switchboard.Switchboard.{Switchboard}
@@ -36,22 +36,22 @@ use Rattle.broker_task.specs.Given.{retired_end, IsRetiredOf}
 use Rattle.broker_task.specs.Holding.{lines_of, HoldsForExecs, NoneIsLost}
 use Rattle.broker_task.specs.Rounds.{IsReady, IsSettled}
 use Rattle.broker_task.specs.Standing.{IsAttended, Stands, AreSettled}
-use Rattle.broker_task.proofs.Lists.{at-mapped}
-use Rattle.broker_task.proofs.RoundSteps.{domain-there}
+use Rattle.broker_task.proofs.Lists.{at_mapped}
+use Rattle.broker_task.proofs.RoundSteps.{domain_there}
 
 -- ---- what was said
 
-said-whole : (greeted : Bool) (own : ℕ) (said : List Message) (sent : List ℕ) → own ≡ broker_version → Each (λ m. (to_agent m ≡ true) × IsSpellable m) said → SentWhole greeted own said sent → IsSaid broker_version to_agent said sent
-said-whole false own said sent is each whole = record { each = each; whole = inl whole }
-said-whole true own said sent is each whole = record { each = each; whole = inr (subst (λ (o : ℕ). SentWhole true o said sent) is whole) }
+said_whole : (greeted : Bool) (own : ℕ) (said : List Message) (sent : List ℕ) → own ≡ broker_version → Each (λ m. (to_agent m ≡ true) × IsSpellable m) said → SentWhole greeted own said sent → IsSaid broker_version to_agent said sent
+said_whole false own said sent is each whole = record { each = each; whole = inl whole }
+said_whole true own said sent is each whole = record { each = each; whole = inr (subst (λ (o : ℕ). SentWhole true o said sent) is whole) }
 
-pub said-by : (p : PortState) (said : List Message) → p.talker ≡ ByBroker → p.own ≡ broker_version → HasSaid p said → IsSaid broker_version to_agent said (view p.end).sent
-said-by p said talker own h = said-whole p.greeted p.own said (view p.end).sent own (subst (λ (t : Talker). Each (λ m. (may_say t m ≡ true) × IsSpellable m) said) talker h.each) h.whole
+pub said_by : (p : PortState) (said : List Message) → p.talker ≡ ByBroker → p.own ≡ broker_version → HasSaid p said → IsSaid broker_version to_agent said (view p.end).sent
+said_by p said talker own h = said_whole p.greeted p.own said (view p.end).sent own (subst (λ (t : Talker). Each (λ m. (may_say t m ≡ true) × IsSpellable m) said) talker h.each) h.whole
 
 -- a port that has sent something has sent its greeting
-has-greeted : (greeted : Bool) (own : ℕ) (said : List Message) (sent : List ℕ) → SentWhole greeted own said sent → sent ≢ [] → greeted ≡ true
-has-greeted false own said sent whole some = absurd (some whole.0)
-has-greeted true own said sent whole some = refl
+has_greeted : (greeted : Bool) (own : ℕ) (said : List Message) (sent : List ℕ) → SentWhole greeted own said sent → sent ≢ [] → greeted ≡ true
+has_greeted false own said sent whole some = absurd (some whole.0)
+has_greeted true own said sent whole some = refl
 
 -- ---- one domain
 
@@ -69,23 +69,23 @@ record ShowsSame (x : Daemon) (e : BrokerEnd) : Type 0 where
   ended : e.view.ended ≡ (end_of x).ended
   cause : is_gone x ≡ true → MayDrop e
 
-shows-itself : (d : ℕ) (x : Daemon) → IsLine d x → ShowsSame x (broker_end x)
-shows-itself d x line = record { got = refl; sent = refl; misled = refl; ended = refl; cause = line.cause }
+shows_itself : (d : ℕ) (x : Daemon) → IsLine d x → ShowsSame x (broker_end x)
+shows_itself d x line = record { got = refl; sent = refl; misled = refl; ended = refl; cause = line.cause }
 
-shows-retired : (d : ℕ) (x : Daemon) (r : RetiredEnd) → IsLine d x → IsRetiredOf x r → ShowsSame x (retired_end r)
-shows-retired d x r line is = record {
+shows_retired : (d : ℕ) (x : Daemon) (r : RetiredEnd) → IsLine d x → IsRetiredOf x r → ShowsSame x (retired_end r)
+shows_retired d x r line is = record {
   got = ap (λ (e : EndView). e.got) is.retired;
   sent = ap (λ (e : EndView). e.sent) is.retired;
   misled = ap (λ (e : EndView). e.misled) is.retired;
   ended = ap (λ (e : EndView). e.ended) is.retired;
   cause = λ gone.
-      let hung_up : MayDrop (record { view = retired_view (end_of x); gone = x.port.end.side.notes.gone }) = hangs-up (broker_end x) (line.cause gone) in
+      let hung_up : MayDrop (record { view = retired_view (end_of x); gone = x.port.end.side.notes.gone }) = hangs_up (broker_end x) (line.cause gone) in
       subst MayDrop (λ i. record { view = sym is.retired i; gone = sym (is.noted gone) i }) hung_up;
 }
   where
-    hangs-up : (e : BrokerEnd) → MayDrop e → MayDrop (record { view = retired_view e.view; gone = e.gone })
-    hangs-up e (inl seen) = inl (record { saw = seen.saw; how = seen.how })
-    hangs-up e (inr w) = inr w
+    hangs_up : (e : BrokerEnd) → MayDrop e → MayDrop (record { view = retired_view e.view; gone = e.gone })
+    hangs_up e (inl seen) = inl (record { saw = seen.saw; how = seen.how })
+    hangs_up e (inr w) = inr w
 
 attended : (hub : Domains) (journal : List Entry) (said : ℕ → List Message) (d : ℕ) (x : Daemon) (e : BrokerEnd) → IsLine d x → HasPosted hub journal said d x → HasRead x (read_from journal d) → ShowsSame x e
     → IsAttended hub journal said d e
@@ -96,12 +96,12 @@ attended hub journal said d x e line posted read same = record {
   cause = λ dropped. same.cause (sym posted.dropped ∙ dropped);
   drops = λ must. posted.dropped ∙ by_gone (is_gone x) refl (must_of must);
   greets = λ some.
-      let greeted : x.port.greeted ≡ true = has-greeted x.port.greeted x.port.own (said d) (end_of x).sent posted.says.whole (λ none. some (same.sent ∙ none)) in
+      let greeted : x.port.greeted ≡ true = has_greeted x.port.greeted x.port.own (said d) (end_of x).sent posted.says.whole (λ none. some (same.sent ∙ none)) in
       let heard : (hears broker_version to_broker e.view.got).version ≡ x.port.version = ap (λ (g : List ℕ). (hears broker_version to_broker g).version) same.got ∙ read.version in
       subst (λ (o : Option ℕ). IsSome o) (sym heard) (line.greets greeted);
-  says = subst (λ (s : List ℕ). IsSaid broker_version to_agent (said d) s) (sym same.sent) (said-by x.port (said d) line.talker line.own posted.says);
+  says = subst (λ (s : List ℕ). IsSaid broker_version to_agent (said d) s) (sym same.sent) (said_by x.port (said d) line.talker line.own posted.says);
   from_journal = (messages_in x.outbox.letters.items ++ posted.lost, posted.kept);
-  exec_first = λ t port ident has. each-at (MayGo journal said d) (said d) (Connect t port ident) posted.went (has-from (said d) (Connect t port ident) has);
+  exec_first = λ t port ident has. each_at (MayGo journal said d) (said d) (Connect t port ident) posted.went (has_from (said d) (Connect t port ident) has);
 }
   where
     must_of : MustDrop e.view → MustDrop (end_of x)
@@ -115,13 +115,13 @@ attended hub journal said d x e line posted read same = record {
 
 -- ---- all domains
 
-at-paired : {A B : Type 0} (R : A → B → Type 0) (xs : List A) (ys : List B) (i : ℕ) (y : B) → EachPair R xs ys → IsAt ys i y → (x : A) × IsAt xs i x × R x y
-at-paired R [] [] i y all at = absurd (omega (arith, at.within))
-at-paired R [] (b ∷ ys) i y all at = absurd all
-at-paired R (a ∷ xs) [] i y all at = absurd all
-at-paired R (a ∷ xs) (b ∷ ys) zero y all at = (a, record { within = omega arith; is = refl }, subst (R a) (sym at.is) all.0)
-at-paired R (a ∷ xs) (b ∷ ys) (suc i) y all at =
-    let rest = at-paired R xs ys i y all.1 (record { within = omega (arith, at.within); is = at.is }) in
+at_paired : {A B : Type 0} (R : A → B → Type 0) (xs : List A) (ys : List B) (i : ℕ) (y : B) → EachPair R xs ys → IsAt ys i y → (x : A) × IsAt xs i x × R x y
+at_paired R [] [] i y all at = absurd (omega (arith, at.within))
+at_paired R [] (b ∷ ys) i y all at = absurd all
+at_paired R (a ∷ xs) [] i y all at = absurd all
+at_paired R (a ∷ xs) (b ∷ ys) zero y all at = (a, record { within = omega arith; is = refl }, subst (R a) (sym at.is) all.0)
+at_paired R (a ∷ xs) (b ∷ ys) (suc i) y all at =
+    let rest = at_paired R xs ys i y all.1 (record { within = omega (arith, at.within); is = at.is }) in
     (rest.0, record { within = omega (arith, rest.1.within); is = rest.1.is }, rest.2)
 
 stands : (s : Switchboard) → IsReady s → Stands s.broker.hub s.broker.journal (map broker_end s.daemons.items)
@@ -131,53 +131,53 @@ stands s ready = record {
   count = length-map s.daemons.items broker_end ∙ ready.posting.count;
   said = ready.posting.said;
   each = λ i e at.
-      let from = at-mapped broker_end s.daemons.items i e at in
+      let from = at_mapped broker_end s.daemons.items i e at in
       let x = from.0 in
       let line = ready.posting.lines i x from.1 in
       subst (λ (b : BrokerEnd). IsAttended s.broker.hub s.broker.journal ready.posting.said (i + 1) b) (sym from.2)
-      (attended s.broker.hub s.broker.journal ready.posting.said (i + 1) x (broker_end x) line (ready.posting.posted i x from.1) (ready.read i x from.1) (shows-itself (i + 1) x line));
+      (attended s.broker.hub s.broker.journal ready.posting.said (i + 1) x (broker_end x) line (ready.posting.posted i x from.1) (ready.read i x from.1) (shows_itself (i + 1) x line));
 }
 
 -- ---- what is left to be done
 
-pub awaited-at : (ds : List Daemon) (i : ℕ) (x : Daemon) → IsAt ds i x → slice_index_or (map (λ z. z.awaited) ds) i 0 ≡ x.awaited
-awaited-at [] i x at = absurd (omega (arith, at.within))
-awaited-at (y ∷ ds) zero x at = ap (λ (z : Daemon). z.awaited) (sym at.is)
-awaited-at (y ∷ ds) (suc i) x at = awaited-at ds i x (record { within = omega (arith, at.within); is = at.is })
+pub awaited_at : (ds : List Daemon) (i : ℕ) (x : Daemon) → IsAt ds i x → slice_index_or (map (λ z. z.awaited) ds) i 0 ≡ x.awaited
+awaited_at [] i x at = absurd (omega (arith, at.within))
+awaited_at (y ∷ ds) zero x at = ap (λ (z : Daemon). z.awaited) (sym at.is)
+awaited_at (y ∷ ds) (suc i) x at = awaited_at ds i x (record { within = omega (arith, at.within); is = at.is })
 
-none-left : {A : Type 0} (xs : List A) → length xs ≡ 0 → xs ≡ []
-none-left [] none = refl
-none-left (x ∷ xs) none = absurd (omega (arith, none))
+none_left : {A : Type 0} (xs : List A) → length xs ≡ 0 → xs ≡ []
+none_left [] none = refl
+none_left (x ∷ xs) none = absurd (omega (arith, none))
 
 -- as many messages were said as the outbox has, and so none waits
-all-went : (said waits lost all : List Message) → IsPermutation said all → IsPermutation (said ++ (waits ++ lost)) all → length waits ≡ 0
-all-went said waits lost all whole kept =
+all_went : (said waits lost all : List Message) → IsPermutation said all → IsPermutation (said ++ (waits ++ lost)) all → length waits ≡ 0
+all_went said waits lost all whole kept =
     omega (arith, length_permutation said all whole, length_permutation (said ++ (waits ++ lost)) all kept, length-append said (waits ++ lost), length-append waits lost)
 
-settled-within : (s : Switchboard) (ready : IsReady s) → AreSettled s.broker.hub (map (λ x. x.awaited) s.daemons.items) s.broker.journal ready.posting.said
+settled_within : (s : Switchboard) (ready : IsReady s) → AreSettled s.broker.hub (map (λ x. x.awaited) s.daemons.items) s.broker.journal ready.posting.said
     → EachAt (IsSettled s.broker.hub s.broker.journal (length s.daemons.items)) s.daemons.items
-settled-within s ready all = λ i x at up.
+settled_within s ready all = λ i x at up.
     let hub = s.broker.hub in
     let journal = s.broker.journal in
     let ds = s.daemons.items in
     let posted = ready.posting.posted i x at in
     let number = (ready.posting.lines i x at).number in
-    let there : is_domain hub (i + 1) ≡ true = subst (λ (d : ℕ). is_domain hub d ≡ true) number (domain-there hub ds i x ready.posting.count at number) in
+    let there : is_domain hub (i + 1) ≡ true = subst (λ (d : ℕ). is_domain hub d ≡ true) number (domain_there hub ds i x ready.posting.count at number) in
     let one = all (i + 1) there (posted.dropped ∙ up) in
     let place : i + 1 - 1 ≡ i = omega arith in
-    let awaited : awaited_of (map (λ z. z.awaited) ds) (i + 1) ≡ x.awaited = ap (λ (k : ℕ). slice_index_or (map (λ z. z.awaited) ds) k 0) place ∙ awaited-at ds i x at in
+    let awaited : awaited_of (map (λ z. z.awaited) ds) (i + 1) ≡ x.awaited = ap (λ (k : ℕ). slice_index_or (map (λ z. z.awaited) ds) k 0) place ∙ awaited_at ds i x at in
     let calls : live_calls hub journal (numbers 1 1 (length ds)) (i + 1) ≡ live_calls hub journal (numbers 1 1 (count_of hub)) (i + 1) = ap (λ (n : ℕ). live_calls hub journal (numbers 1 1 n) (i + 1)) ready.posting.count in
     let answered_is : x.answered ≡ answered journal (i + 1) = posted.counted in (
       omega (arith, one.0, awaited, calls, answered_is),
       λ some.
-          let went = all-went (ready.posting.said (i + 1)) (messages_in x.outbox.letters.items) posted.lost (outbox hub journal (i + 1)) (one.1 (omega (arith, awaited, some))) posted.kept in
-          none-left x.outbox.letters.items (sym (length-map x.outbox.letters.items (λ (l : Letter). l.message)) ∙ went),
+          let went = all_went (ready.posting.said (i + 1)) (messages_in x.outbox.letters.items) posted.lost (outbox hub journal (i + 1)) (one.1 (omega (arith, awaited, some))) posted.kept in
+          none_left x.outbox.letters.items (sym (length-map x.outbox.letters.items (λ (l : Letter). l.message)) ∙ went),
     )
 
 -- a domain that isn't dropped lost no letter
-none-lost : (hub : Domains) (journal : List Entry) (ds : List Daemon) (p : IsPosting hub journal ds) → NoneIsLost hub journal p.said (lines_of ds)
-none-lost hub journal ds p = λ place line at up.
-    let of = at-mapped line_of ds place line at in
+none_lost_lem : (hub : Domains) (journal : List Entry) (ds : List Daemon) (p : IsPosting hub journal ds) → NoneIsLost hub journal p.said (lines_of ds)
+none_lost_lem hub journal ds p = λ place line at up.
+    let of = at_mapped line_of ds place line at in
     let h = p.posted place of.0 of.1 in
     let none : h.lost ≡ [] = h.none_lost (ap (λ (l : BrokerLine). is_shut (view l.end).state) (sym of.2) ∙ up) in
     subst (λ (l : BrokerLine). IsPermutation (p.said (place + 1) ++ messages_in l.letters) (outbox hub journal (place + 1))) (sym of.2)
@@ -185,25 +185,25 @@ none-lost hub journal ds p = λ place line at up.
     (subst (λ (l : List Message). IsPermutation (p.said (place + 1) ++ (messages_in of.0.outbox.letters.items ++ l)) (outbox hub journal (place + 1))) none h.kept))
 
 -- what stands of a task that goes on
-pub goes-on : (s : Switchboard) → IsReady s → (EachAt (IsSettled s.broker.hub s.broker.journal (length s.daemons.items)) s.daemons.items → ⊥)
+pub goes_on : (s : Switchboard) → IsReady s → (EachAt (IsSettled s.broker.hub s.broker.journal (length s.daemons.items)) s.daemons.items → ⊥)
     → (st : Stands s.broker.hub s.broker.journal (map broker_end s.daemons.items)) × (AreSettled s.broker.hub (map (λ x. x.awaited) s.daemons.items) s.broker.journal st.said → ⊥)
     × NoneIsLost s.broker.hub s.broker.journal st.said (lines_of s.daemons.items) × HoldsForExecs (lines_of s.daemons.items)
 unfolding stands
-goes-on s ready unsettled = (stands s ready, (λ all. unsettled (settled-within s ready all)), none-lost s.broker.hub s.broker.journal s.daemons.items ready.posting, ready.holds)
+goes_on s ready unsettled = (stands s ready, (λ all. unsettled (settled_within s ready all)), none_lost_lem s.broker.hub s.broker.journal s.daemons.items ready.posting, ready.holds)
 
 -- ---- all ends are given back
 
-pub stands-done : (s : Switchboard) (ends : List RetiredEnd) → IsReady s → EachPair IsRetiredOf s.daemons.items ends → Stands s.broker.hub s.broker.journal (map retired_end ends)
-stands-done s ends ready pairs = record {
+pub stands_done : (s : Switchboard) (ends : List RetiredEnd) → IsReady s → EachPair IsRetiredOf s.daemons.items ends → Stands s.broker.hub s.broker.journal (map retired_end ends)
+stands_done s ends ready pairs = record {
   decided = ready.posting.decided;
   numbered = ready.posting.numbered;
   count = length-map ends retired_end ∙ AllZip-long IsRetiredOf s.daemons.items ends pairs ∙ ready.posting.count;
   said = ready.posting.said;
   each = λ i e at.
-      let of = at-mapped retired_end ends i e at in
-      let from = at-paired IsRetiredOf s.daemons.items ends i of.0 pairs of.1 in
+      let of = at_mapped retired_end ends i e at in
+      let from = at_paired IsRetiredOf s.daemons.items ends i of.0 pairs of.1 in
       let x = from.0 in
       let line = ready.posting.lines i x from.1 in
       subst (λ (b : BrokerEnd). IsAttended s.broker.hub s.broker.journal ready.posting.said (i + 1) b) (sym of.2)
-      (attended s.broker.hub s.broker.journal ready.posting.said (i + 1) x (retired_end of.0) line (ready.posting.posted i x from.1) (ready.read i x from.1) (shows-retired (i + 1) x of.0 line from.2));
+      (attended s.broker.hub s.broker.journal ready.posting.said (i + 1) x (retired_end of.0) line (ready.posting.posted i x from.1) (ready.read i x from.1) (shows_retired (i + 1) x of.0 line from.2));
 }

@@ -13,21 +13,21 @@ use Rattle.call_broker.specs.Domains.{Domains, target_of, is_service, pages_of, 
 use Rattle.call_broker.specs.Pair.{PairState, has, pair_of, takes_call, answers, state_after, decision}
 use Rattle.call_broker.specs.Journal.{IsDecidedOn}
 use Rattle.call_broker.specs.Laws.{IsAccepted, AcceptsWell, AcceptedCallsAreWell}
-use Rattle.call_broker.proofs.PortLaws.{IsAnswer, rest_of, rest-view}
+use Rattle.call_broker.proofs.PortLaws.{IsAnswer, rest_of, rest_view}
 
-served-only : (b : Bool) (rest : Decision) (a : Bool) (to port : ℕ) → (if a then PassedOver else if not b then Refused NoService else rest) ≡ Accepted to port → b ≡ true
-served-only true rest a to port h = refl
-served-only false rest true to port h = cc
-served-only false rest false to port h = cc
+served_only : (b : Bool) (rest : Decision) (a : Bool) (to port : ℕ) → (if a then PassedOver else if not b then Refused NoService else rest) ≡ Accepted to port → b ≡ true
+served_only true rest a to port h = refl
+served_only false rest true to port h = cc
+served_only false rest false to port h = cc
 
-in-state : (hub : Domains) (s : PairState) (from : ℕ) (target service : List ℕ) (to port : ℕ) (o : Option ℕ) → target_of hub target ≡ o
+in_state : (hub : Domains) (s : PairState) (from : ℕ) (target service : List ℕ) (to port : ℕ) (o : Option ℕ) → target_of hub target ≡ o
     → (if has from s.dropped then PassedOver else answers hub s from service o) ≡ Accepted to port → IsAccepted hub from target service to port
-in-state hub s from target service to port None named h = by_up (has from s.dropped) h
+in_state hub s from target service to port None named h = by_up (has from s.dropped) h
   where
     by_up : (b : Bool) → (if b then PassedOver else Refused NoDomain) ≡ Accepted to port → IsAccepted hub from target service to port
     by_up true e = cc
     by_up false e = cc
-in-state hub s from target service to port (Some t) named h = by_self (t == from) refl h
+in_state hub s from target service to port (Some t) named h = by_self (t == from) refl h
   where
     by_up : (b : Bool) → (if b then PassedOver else Refused SameDomain) ≡ Accepted to port → IsAccepted hub from target service to port
     by_up true e = cc
@@ -52,24 +52,24 @@ in-state hub s from target service to port (Some t) named h = by_self (t == from
     by_self : (b : Bool) → (t == from) ≡ b → (if has from s.dropped then PassedOver else if b then Refused SameDomain else rest_of hub s from t service) ≡ Accepted to port → IsAccepted hub from target service to port
     by_self true self e = by_up (has from s.dropped) e
     by_self false self e =
-        by_view self (if has from s.dropped then PassedOver else rest_of hub s from t service) e (rest-view hub s from t service) (served-only (is_service service) (takes_call hub s from t) (has from s.dropped) to port e)
+        by_view self (if has from s.dropped then PassedOver else rest_of hub s from t service) e (rest_view hub s from t service) (served_only (is_service service) (takes_call hub s from t) (has from s.dropped) to port e)
 
-pub accepted-view : (hub : Domains) (before : List Event) (from : ℕ) (target service ident : List ℕ) (to port : ℕ)
+pub accepted_view : (hub : Domains) (before : List Event) (from : ℕ) (target service ident : List ℕ) (to port : ℕ)
     → decision hub before (Trigger from target service ident) ≡ Accepted to port → IsAccepted hub from target service to port
-accepted-view hub before from target service ident to port h =
-    in-state hub (state_after hub before (pair_of hub (Trigger from target service ident))) from target service to port (target_of hub target) refl h
+accepted_view hub before from target service ident to port h =
+    in_state hub (state_after hub before (pair_of hub (Trigger from target service ident))) from target service to port (target_of hub target) refl h
 
-one-entry : (hub : Domains) (before : List Event) (e : Event) (d : Decision) → d ≡ decision hub before e → AcceptsWell hub e d
-one-entry hub before (Trigger from target service ident) (Accepted to port) is = accepted-view hub before from target service ident to port (sym is)
-one-entry hub before (Trigger from target service ident) (Refused cause) is = tt
-one-entry hub before (Trigger from target service ident) (Ended a b port) is = tt
-one-entry hub before (Trigger from target service ident) PassedOver is = tt
-one-entry hub before (Terminated from other port) d is = tt
-one-entry hub before (Dropped domain) d is = tt
+one_entry : (hub : Domains) (before : List Event) (e : Event) (d : Decision) → d ≡ decision hub before e → AcceptsWell hub e d
+one_entry hub before (Trigger from target service ident) (Accepted to port) is = accepted_view hub before from target service ident to port (sym is)
+one_entry hub before (Trigger from target service ident) (Refused cause) is = tt
+one_entry hub before (Trigger from target service ident) (Ended a b port) is = tt
+one_entry hub before (Trigger from target service ident) PassedOver is = tt
+one_entry hub before (Terminated from other port) d is = tt
+one_entry hub before (Dropped domain) d is = tt
 
-pub accepts-well : (hub : Domains) (journal : List Entry) (before : List Event) → IsDecidedOn hub before journal → Each (λ x. AcceptsWell hub x.event x.decision) journal
-accepts-well hub [] before h = tt
-accepts-well hub (x ∷ journal) before h = (one-entry hub before x.event x.decision h.0, accepts-well hub journal (before ++ x.event ∷ []) h.1)
+pub accepts_well : (hub : Domains) (journal : List Entry) (before : List Event) → IsDecidedOn hub before journal → Each (λ x. AcceptsWell hub x.event x.decision) journal
+accepts_well hub [] before h = tt
+accepts_well hub (x ∷ journal) before h = (one_entry hub before x.event x.decision h.0, accepts_well hub journal (before ++ x.event ∷ []) h.1)
 
-pub accepted-calls-are-well : AcceptedCallsAreWell
-accepted-calls-are-well hub journal decided = accepts-well hub journal [] decided
+pub accepted_calls_are_well_lem : AcceptedCallsAreWell
+accepted_calls_are_well_lem hub journal decided = accepts_well hub journal [] decided

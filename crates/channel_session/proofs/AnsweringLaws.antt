@@ -14,7 +14,7 @@ use Rattle.qrexec_data.specs.ServingSide.{ServingState, ServingStandsFor, Agrees
 use Rattle.qrexec_data.specs.Seeing.{Seen, serving_sees, seen_by, serving_use}
 use Rattle.qrexec_data.specs.Sending.{ServingMaySend}
 use Rattle.qrexec_data.specs.Fitting.{FitsServing}
-use Rattle.qrexec_data.proofs.LaidLaws.{same-laid}
+use Rattle.qrexec_data.proofs.LaidLaws.{same_laid}
 use Rattle.qrexec_data.proofs.MaySendLaws.{serving_may_send, serving_sent_all}
 use Rattle.vchan_rule.specs.Seated.{SeatedEnd, view}
 use Rattle.end_view.specs.EndView.{EndView}
@@ -25,8 +25,8 @@ use Rattle.channel_session.specs.Answering.{EndsBy, IsAnswering, IsAtWork}
 -- ---- bytes that went
 
 -- with them the call may be done, and no more is said of the end
-pub ends-over : (a : AnsweringState Builtin) (end : EndView) → a.outcome ≡ None → EndsBy None end → EndsBy (over_if a).outcome end
-ends-over a end none h = by_over (is_over a)
+pub ends_over : (a : AnsweringState Builtin) (end : EndView) → a.outcome ≡ None → EndsBy None end → EndsBy (over_if a).outcome end
+ends_over a end none h = by_over (is_over a)
   where
     still : EndsBy a.outcome end
     still = subst (λ o. EndsBy o end) (sym none) h
@@ -39,8 +39,8 @@ ends-over a end none h = by_over (is_over a)
     by_over true = by_code a.code
     by_over false = still
 
-pub chunk-over : (a : AnsweringState Builtin) → (over_if a).chunk ≡ a.chunk
-chunk-over a = by_over (is_over a)
+pub chunk_over : (a : AnsweringState Builtin) → (over_if a).chunk ≡ a.chunk
+chunk_over a = by_over (is_over a)
   where
     by_code : (code : Option ℤ) → (done_if code a).chunk ≡ a.chunk
     by_code None = refl
@@ -51,21 +51,21 @@ chunk-over a = by_over (is_over a)
     by_over false = refl
 
 -- a side whose bytes were borrowed, and that was told how many of them went, is at work with its end
-pub works-on : (old lent new : ServingState Builtin) (end end' : SeatedEnd) (piece : List ℕ) (count : ℕ) → IsAtWork old end → old.answering.outcome ≡ None → LendsAnswers builtin_owes old lent piece
+pub works_on : (old lent new : ServingState Builtin) (end end' : SeatedEnd) (piece : List ℕ) (count : ℕ) → IsAtWork old end → old.answering.outcome ≡ None → LendsAnswers builtin_owes old lent piece
     → new ≡ record lent { answering = after_gone count lent.answering } → (view end').idle ≡ true → (view end').state ≡ (view end).state → (view end').ended ≡ (view end).ended → IsAtWork new end'
-works-on old lent new end end' piece count work none lends new_is idle state ended =
+works_on old lent new end end' piece count work none lends new_is idle state ended =
     let next = laid_on old.answering.version old.answering in
     let laid : lent.answering ≡ next = ap (λ s. s.answering) lends.new_is ∙ ap (λ o. if is_none o then next else old.answering) none in
-    let same = same-laid old.answering.version old.answering in
+    let same = same_laid old.answering.version old.answering in
     let outcome : lent.answering.outcome ≡ None = ap (λ a. a.outcome) laid ∙ same.outcome ∙ none in
     let size : lent.answering.chunk ≡ chunk = ap (λ a. a.chunk) laid ∙ same.chunk ∙ work.chunk_is in
     let a = record lent.answering { waiting = drop count lent.answering.waiting } in
     let going : EndsBy None (view end) = subst (λ o. EndsBy o (view end)) none work.ends in
     let now : EndsBy None (view end') = (state ∙ going.0, ended ∙ going.1) in
     record {
-      chunk_is = ap (λ s. s.answering.chunk) new_is ∙ chunk-over a ∙ size;
+      chunk_is = ap (λ s. s.answering.chunk) new_is ∙ chunk_over a ∙ size;
       idle = idle;
-      ends = subst (λ o. EndsBy o (view end')) (sym (ap (λ s. s.answering.outcome) new_is)) (ends-over a (view end') outcome now);
+      ends = subst (λ o. EndsBy o (view end')) (sym (ap (λ s. s.answering.outcome) new_is)) (ends_over a (view end') outcome now);
     }
 
 -- ---- its end

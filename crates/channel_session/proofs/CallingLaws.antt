@@ -18,12 +18,12 @@ use Rattle.task_duties.specs.Agent.Sessions.{CallerEnded, CallerDone, CallerOwes
 use Rattle.channel_session.specs.Calling.{EndsBy, IsCalling, IsRetired}
 
 -- bytes decide nothing of the channel's end
-pub ends-by-bytes : (outcome : Option Outcome) (end : EndView) → IsByBytes outcome → end.ended ≡ None → EndsBy outcome end
-ends-by-bytes None end b h = h
-ends-by-bytes (Some (Done code)) end b h = tt
-ends-by-bytes (Some (Fault f)) end b h = tt
-ends-by-bytes (Some Closed) end b h = absurd b
-ends-by-bytes (Some Gone) end b h = absurd b
+pub ends_by_bytes : (outcome : Option Outcome) (end : EndView) → IsByBytes outcome → end.ended ≡ None → EndsBy outcome end
+ends_by_bytes None end b h = h
+ends_by_bytes (Some (Done code)) end b h = tt
+ends_by_bytes (Some (Fault f)) end b h = tt
+ends_by_bytes (Some Closed) end b h = absurd b
+ends_by_bytes (Some Gone) end b h = absurd b
 
 -- bytes that were drained were taken
 pub took : (caller new : CallerState) (end end' : SeatedEnd) (count : ℕ) (buf : List ℕ) (saw : Bool) → IsCalling caller end → caller.replies.outcome ≡ None
@@ -37,7 +37,7 @@ took caller new end end' count buf saw h undecided view_is is_open got requests 
       got = got ∙ (ap (λ g. g ++ take count buf) h.got ∙ sym (ap (λ v. v.got) view_is));
       stands = subst (λ s. CallerStandsFor new s) (sym (ap (λ v. v.sent) view_is)) (stands _ h.stands);
       is_open = is_open;
-      ends = ends-by-bytes new.replies.outcome (view end') bytes (ap (λ v. v.ended) view_is ∙ none);
+      ends = ends_by_bytes new.replies.outcome (view end') bytes (ap (λ v. v.ended) view_is ∙ none);
     }
 
 -- an outcome that agrees with what is seen fits it
@@ -48,14 +48,14 @@ fits Closed seen h = h
 fits Gone seen h = h
 
 -- and what it says of its end stays said if that is retired
-pub ended-stays : (outcome : Outcome) (end end' : EndView) → IsRetired end end' → CallerEnded outcome end → CallerEnded outcome end'
-ended-stays outcome end end' is h = subst (λ e. CallerEnded outcome e) (sym is) (retired-too outcome end h)
+pub ended_stays : (outcome : Outcome) (end end' : EndView) → IsRetired end end' → CallerEnded outcome end → CallerEnded outcome end'
+ended_stays outcome end end' is h = subst (λ e. CallerEnded outcome e) (sym is) (retired_too outcome end h)
   where
-    retired-too : (outcome : Outcome) (end : EndView) → CallerEnded outcome end → CallerEnded outcome (record end { state = Shut; retired = true })
-    retired-too (Done code) end h = tt
-    retired-too (Fault f) end h = tt
-    retired-too Closed end h = record { saw = h.saw; ended = h.ended; drained = h.drained }
-    retired-too Gone end h = record { saw = h.saw; ended = h.ended }
+    retired_too : (outcome : Outcome) (end : EndView) → CallerEnded outcome end → CallerEnded outcome (record end { state = Shut; retired = true })
+    retired_too (Done code) end h = tt
+    retired_too (Fault f) end h = tt
+    retired_too Closed end h = record { saw = h.saw; ended = h.ended; drained = h.drained }
+    retired_too Gone end h = record { saw = h.saw; ended = h.ended }
 
 -- a call that has come out owes what it reports
 pub owes : (caller : CallerState) (end : SeatedEnd) (last : EndView) (outcome : Outcome) (done : CallerDone) → IsCalling caller end → caller.replies.outcome ≡ Some outcome → IsRetired (view end) last
@@ -72,5 +72,5 @@ owes caller end last outcome done h decided is done_is =
       stdout = rw got knows.stdout;
       stderr = rw got knows.stderr;
       fits = rw got (fits outcome (caller_sees caller.inbox.got) seen);
-      ended = ended-stays outcome (view end) last is (subst (λ o. EndsBy o (view end)) decided h.ends);
+      ended = ended_stays outcome (view end) last is (subst (λ o. EndsBy o (view end)) decided h.ends);
     })

@@ -20,18 +20,16 @@ use Rattle.end_view.specs.EndView.{EndView}
 use Rattle.vchan_rule.specs.Seated.{SeatedEnd, view}
 use Rattle.vchan_rule.specs.Ends.{IsSameEnd}
 use Rattle.vchan_rule.specs.Called.{most_asked as asked_most, most_asked}
-use Rattle.vchan_rule.proofs.EndLaws.{same-end-then}
+use Rattle.vchan_rule.proofs.EndLaws.{same_end_then}
 use Rattle.channel_session.specs.Calling.{CallerAt, CallerTurns, CallerReads, CallerWrites}
 use Rattle.channel_session.specs.Answering.{ServingAt, ServingTurns, ServingReads, ServingWrites, HasNothing}
 use Rattle.channel_session.specs.Turning.{Pace, IsMade, KeepsBytes, FindsFull, FindsShut, SendsNone, NothingWaits, WasShut, RingIsFull, PeerIsShut, KeepsShut, turned_by}
 
--- ---- bytes
-
 -- ---- what one call found
 
-pub finds-not-yet : (before at now : SeatedEnd) (buf : List ℕ) (prod cons : ℕ) → at ≡ before → 0 < length buf → Trace (standing_of at.side) (Drain (asked_most buf)) now.side.trail (NotYet prod cons)
+pub finds_not_yet : (before at now : SeatedEnd) (buf : List ℕ) (prod cons : ℕ) → at ≡ before → 0 < length buf → Trace (standing_of at.side) (Drain (asked_most buf)) now.side.trail (NotYet prod cons)
     → ((other : DrainAnswer) → (IsNotYet prod cons ≡ other) ↔ DrainCause (standing_of at.side) (asked_most buf) (loads_of (standing_of at.side) now.side.trail) (drain_told other)) → FindsNotYet before now
-finds-not-yet before at now buf prod cons same some trail cause = subst (λ e. FindsNotYet e now) same (record {
+finds_not_yet before at now buf prod cons same some trail cause = subst (λ e. FindsNotYet e now) same (record {
   most = asked_most buf;
   some = omega (arith, some);
   prod = prod;
@@ -40,65 +38,65 @@ finds-not-yet before at now buf prod cons same some trail cause = subst (λ e. F
   cause = (cause (IsNotYet prod cons)).0 refl;
 })
 
-pub finds-full : (before at now : SeatedEnd) (piece waiting : List ℕ) (prod cons : ℕ) → at ≡ before → waiting ≡ piece → Trace (standing_of at.side) (Write (most_asked piece)) now.side.trail (Full prod cons)
+pub finds_full : (before at now : SeatedEnd) (piece waiting : List ℕ) (prod cons : ℕ) → at ≡ before → waiting ≡ piece → Trace (standing_of at.side) (Write (most_asked piece)) now.side.trail (Full prod cons)
     → ((other : WriteAnswer) → (IsFull prod cons ≡ other) ↔ WriteCause (standing_of at.side) (most_asked piece) (loads_of (standing_of at.side) now.side.trail) (write_told other)) → FindsFull before now (most_asked waiting)
-finds-full before at now piece waiting prod cons same waits trail cause = subst (λ w. FindsFull before now (most_asked w)) (sym waits) (subst (λ e. FindsFull e now (most_asked piece)) same (record {
+finds_full before at now piece waiting prod cons same waits trail cause = subst (λ w. FindsFull before now (most_asked w)) (sym waits) (subst (λ e. FindsFull e now (most_asked piece)) same (record {
   prod = prod;
   cons = cons;
   trail = trail;
   cause = (cause (IsFull prod cons)).0 refl;
 }))
 
-pub finds-shut : (at now : SeatedEnd) (piece : List ℕ) → Trace (standing_of at.side) (Write (most_asked piece)) now.side.trail PeerClosed
+pub finds_shut : (at now : SeatedEnd) (piece : List ℕ) → Trace (standing_of at.side) (Write (most_asked piece)) now.side.trail PeerClosed
     → ((other : WriteAnswer) → (IsShut ≡ other) ↔ WriteCause (standing_of at.side) (most_asked piece) (loads_of (standing_of at.side) now.side.trail) (write_told other)) → FindsShut at now (most_asked piece)
-finds-shut at now piece trail cause = record { trail = trail; cause = (cause IsShut).0 refl }
+finds_shut at now piece trail cause = record { trail = trail; cause = (cause IsShut).0 refl }
 
 -- ---- the parts of a turn
 
-sends-as : (P Q : Type 0) (waiting : List ℕ) (shut shut' : Bool) (before now : SeatedEnd) → (P → Q) → shut ≡ shut' → SendsNone P waiting shut before now → SendsNone Q waiting shut' before now
-sends-as P Q waiting shut shut' before now f same (NothingWaits still is) = NothingWaits (f still) is
-sends-as P Q waiting shut shut' before now f same (WasShut was saw is) = WasShut (sym same ∙ was) saw is
-sends-as P Q waiting shut shut' before now f same (RingIsFull some full) = RingIsFull some full
-sends-as P Q waiting shut shut' before now f same (PeerIsShut some found) = PeerIsShut some found
+sends_as : (P Q : Type 0) (waiting : List ℕ) (shut shut' : Bool) (before now : SeatedEnd) → (P → Q) → shut ≡ shut' → SendsNone P waiting shut before now → SendsNone Q waiting shut' before now
+sends_as P Q waiting shut shut' before now f same (NothingWaits still is) = NothingWaits (f still) is
+sends_as P Q waiting shut shut' before now f same (WasShut was saw is) = WasShut (sym same ∙ was) saw is
+sends_as P Q waiting shut shut' before now f same (RingIsFull some full) = RingIsFull some full
+sends_as P Q waiting shut shut' before now f same (PeerIsShut some found) = PeerIsShut some found
 
 -- the bytes of an end after both halves of a turn that moved something
-pub turn-keeps : (v a b c : EndView) → a ≡ v → length a.got ≤ length b.got → b.sent ≡ a.sent → c.got ≡ b.got → length b.sent ≤ length c.sent → KeepsBytes v c
-turn-keeps v a b c is came sent got went = subst (λ (e : EndView). KeepsBytes e c) is (record {
+pub turn_keeps : (v a b c : EndView) → a ≡ v → length a.got ≤ length b.got → b.sent ≡ a.sent → c.got ≡ b.got → length b.sent ≤ length c.sent → KeepsBytes v c
+turn_keeps v a b c is came sent got went = subst (λ (e : EndView). KeepsBytes e c) is (record {
   got = let same = ap (λ (l : List ℕ). length l) got in omega (arith, came, same);
   sent = let same = ap (λ (l : List ℕ). length l) sent in omega (arith, went, same);
 })
 
 -- as many bytes as before
-as-long : (xs ys : List ℕ) → ys ≡ xs → length xs ≤ length ys
-as-long xs ys same = let long = ap (λ (l : List ℕ). length l) same in omega (arith, long)
+as_long : (xs ys : List ℕ) → ys ≡ xs → length xs ≤ length ys
+as_long xs ys same = let long = ap (λ (l : List ℕ). length l) same in omega (arith, long)
 
-caller-went : (went : Bool) (b c : CallerAt) → CallerWrites went b c → length (view b.end).sent ≤ length (view c.end).sent
-caller-went true b c more = omega (arith, more)
-caller-went false b c rests = as-long (view b.end).sent (view c.end).sent rests.0
+caller_went : (went : Bool) (b c : CallerAt) → CallerWrites went b c → length (view b.end).sent ≤ length (view c.end).sent
+caller_went true b c more = omega (arith, more)
+caller_went false b c rests = as_long (view b.end).sent (view c.end).sent rests.0
 
-serving-went : (went : Bool) (b c : ServingAt) → ServingWrites went b c → length (view b.end).sent ≤ length (view c.end).sent
-serving-went true b c more = omega (arith, more)
-serving-went false b c rests = as-long (view b.end).sent (view c.end).sent rests.0
+serving_went : (went : Bool) (b c : ServingAt) → ServingWrites went b c → length (view b.end).sent ≤ length (view c.end).sent
+serving_went true b c more = omega (arith, more)
+serving_went false b c rests = as_long (view b.end).sent (view c.end).sent rests.0
 
-pub caller-turns : (came went : Bool) (old a b c : CallerAt) (pace : Pace) → IsSameEnd old.end a.end → IsSameEnd a.end b.end → IsSameEnd b.end c.end → view a.end ≡ view old.end → a.caller ≡ old.caller → a.pace ≡ old.pace → old.caller.replies.outcome ≡ None
+pub caller_turns : (came went : Bool) (old a b c : CallerAt) (pace : Pace) → IsSameEnd old.end a.end → IsSameEnd a.end b.end → IsSameEnd b.end c.end → view a.end ≡ view old.end → a.caller ≡ old.caller → a.pace ≡ old.pace → old.caller.replies.outcome ≡ None
     → CallerReads came a b → b.pace ≡ a.pace → (view b.end).sent ≡ (view a.end).sent
     → CallerWrites went b c → (view c.end).got ≡ (view b.end).got → c.caller.replies.outcome ≡ b.caller.replies.outcome
     → IsMade (not (came || went)) pace → CallerTurns (turned_by (came || went)) old (record { caller = c.caller; end = c.end; pace = pace })
-caller-turns true went old a b c pace same same' same'' is caller was none reads paced sent writes got outcome made =
-    (record { kept = turn-keeps (view old.end) (view a.end) (view b.end) (view c.end) is reads.0 sent got (caller-went went b c writes); more = by_read reads.1 }, made)
+caller_turns true went old a b c pace same same' same'' is caller was none reads paced sent writes got outcome made =
+    (record { kept = turn_keeps (view old.end) (view a.end) (view b.end) (view c.end) is reads.0 sent got (caller_went went b c writes); more = by_read reads.1 }, made)
   where
     by_read : (length (view a.end).got < length (view b.end).got) ⊎ IsSome b.caller.replies.outcome
         → (length (view old.end).got < length (view c.end).got) ⊎ (length (view old.end).sent < length (view c.end).sent) ⊎ IsSome c.caller.replies.outcome
     by_read (inl more) = inl (subst (λ v. length v.got < length (view c.end).got) is (subst (λ g. length (view a.end).got < length g) (sym got) more))
     by_read (inr over) = inr (inr (subst IsSome (sym outcome) over))
-caller-turns false true old a b c pace same same' same'' is caller was none reads paced sent more got outcome made = (
+caller_turns false true old a b c pace same same' same'' is caller was none reads paced sent more got outcome made = (
   record {
-    kept = turn-keeps (view old.end) (view a.end) (view b.end) (view c.end) is (as-long (view a.end).got (view b.end).got reads.1) sent got (caller-went true b c more);
+    kept = turn_keeps (view old.end) (view a.end) (view b.end) (view c.end) is (as_long (view a.end).got (view b.end).got reads.1) sent got (caller_went true b c more);
     more = inr (inl (subst (λ s. length s < length (view c.end).sent) (sent ∙ ap (λ v. v.sent) is) more));
   },
   made,
 )
-caller-turns false false old a b c pace same same' same'' is caller was none reads paced sent rests got outcome made =
+caller_turns false false old a b c pace same same' same'' is caller was none reads paced sent rests got outcome made =
     let kept = reads.0 ∙ caller in (
       (got ∙ (reads.1 ∙ ap (λ v. v.got) is), rests.0 ∙ (sent ∙ ap (λ v. v.sent) is), outcome ∙ (ap (λ k. k.replies.outcome) kept ∙ none)),
       made,
@@ -110,36 +108,36 @@ caller-turns false false old a b c pace same same' same'' is caller was none rea
         same_now = same'';
         view_is = is;
         not_yet = reads.2;
-        sends = sends-as (IsStill b.caller) (IsStill old.caller) c.caller.requests.waiting b.pace.peer_shut old.pace.peer_shut b.end c.end (subst IsStill kept) (ap (λ p. p.peer_shut) (paced ∙ was)) rests.1;
+        sends = sends_as (IsStill b.caller) (IsStill old.caller) c.caller.requests.waiting b.pace.peer_shut old.pace.peer_shut b.end c.end (subst IsStill kept) (ap (λ p. p.peer_shut) (paced ∙ was)) rests.1;
       },
     )
 
-answers-still : (old b : ServingAt) → b.serving ≡ old.serving → (view b.end).got ≡ (view old.end).got → (view b.end).sent ≡ (view old.end).sent → HasNothing b → HasNothing old
-answers-still old b serving got sent nothing owed h =
+answers_still : (old b : ServingAt) → b.serving ≡ old.serving → (view b.end).got ≡ (view old.end).got → (view b.end).sent ≡ (view old.end).sent → HasNothing b → HasNothing old
+answers_still old b serving got sent nothing owed h =
     subst (λ s. ServingStill s.answering) serving (nothing owed (record {
       got = ap (λ s. s.inbox.got) serving ∙ (h.got ∙ sym got);
       stands = subst (λ s. ServingStandsFor builtin_owes owed s (view b.end).sent) (sym serving) (subst (λ l. ServingStandsFor builtin_owes owed old.serving l) (sym sent) h.stands);
     }))
 
-pub serving-turns : (came went : Bool) (old a b c : ServingAt) (pace : Pace) → IsSameEnd old.end a.end → IsSameEnd a.end b.end → IsSameEnd b.end c.end → view a.end ≡ view old.end → a.serving ≡ old.serving → a.pace ≡ old.pace → old.serving.answering.outcome ≡ None
+pub serving_turns : (came went : Bool) (old a b c : ServingAt) (pace : Pace) → IsSameEnd old.end a.end → IsSameEnd a.end b.end → IsSameEnd b.end c.end → view a.end ≡ view old.end → a.serving ≡ old.serving → a.pace ≡ old.pace → old.serving.answering.outcome ≡ None
     → ServingReads came a b → b.pace ≡ a.pace → (view b.end).sent ≡ (view a.end).sent
     → ServingWrites went b c → (view c.end).got ≡ (view b.end).got → (IsSome b.serving.answering.outcome → IsSome c.serving.answering.outcome)
     → IsMade (not (came || went)) pace → ServingTurns (turned_by (came || went)) old (record { serving = c.serving; end = c.end; pace = pace })
-serving-turns true went old a b c pace same same' same'' is serving was none reads paced sent writes got outcome made =
-    (record { kept = turn-keeps (view old.end) (view a.end) (view b.end) (view c.end) is reads.0 sent got (serving-went went b c writes); more = by_read reads.1 }, made)
+serving_turns true went old a b c pace same same' same'' is serving was none reads paced sent writes got outcome made =
+    (record { kept = turn_keeps (view old.end) (view a.end) (view b.end) (view c.end) is reads.0 sent got (serving_went went b c writes); more = by_read reads.1 }, made)
   where
     by_read : (length (view a.end).got < length (view b.end).got) ⊎ IsSome b.serving.answering.outcome
         → (length (view old.end).got < length (view c.end).got) ⊎ (length (view old.end).sent < length (view c.end).sent) ⊎ IsSome c.serving.answering.outcome
     by_read (inl more) = inl (subst (λ v. length v.got < length (view c.end).got) is (subst (λ g. length (view a.end).got < length g) (sym got) more))
     by_read (inr over) = inr (inr (outcome over))
-serving-turns false true old a b c pace same same' same'' is serving was none reads paced sent more got outcome made = (
+serving_turns false true old a b c pace same same' same'' is serving was none reads paced sent more got outcome made = (
   record {
-    kept = turn-keeps (view old.end) (view a.end) (view b.end) (view c.end) is (as-long (view a.end).got (view b.end).got reads.1) sent got (serving-went true b c more);
+    kept = turn_keeps (view old.end) (view a.end) (view b.end) (view c.end) is (as_long (view a.end).got (view b.end).got reads.1) sent got (serving_went true b c more);
     more = inr (inl (subst (λ s. length s < length (view c.end).sent) (sent ∙ ap (λ v. v.sent) is) more));
   },
   made,
 )
-serving-turns false false old a b c pace same same' same'' is serving was none reads paced sent rests got outcome made =
+serving_turns false false old a b c pace same same' same'' is serving was none reads paced sent rests got outcome made =
     let kept = reads.0 ∙ serving in
     let got_is = reads.1 ∙ ap (λ v. v.got) is in
     let sent_is = sent ∙ ap (λ v. v.sent) is in (
@@ -153,17 +151,17 @@ serving-turns false false old a b c pace same same' same'' is serving was none r
         same_now = same'';
         view_is = is;
         not_yet = reads.2;
-        sends = sends-as (HasNothing b) (HasNothing old) c.serving.answering.waiting b.pace.peer_shut old.pace.peer_shut b.end c.end (answers-still old b kept got_is sent_is) (ap (λ p. p.peer_shut) (paced ∙ was)) rests.2;
+        sends = sends_as (HasNothing b) (HasNothing old) c.serving.answering.waiting b.pace.peer_shut old.pace.peer_shut b.end c.end (answers_still old b kept got_is sent_is) (ap (λ p. p.peer_shut) (paced ∙ was)) rests.2;
       },
     )
 
 -- ---- the peer
 
 -- what is kept of the peer, after the look and the drain
-pub keeps-shut : (old mid new : Pace) (before at left now : SeatedEnd) → mid ≡ old → IsSameEnd before at → IsSameEnd at left → KeepsShut mid new left now → KeepsShut old new before now
-keeps-shut old mid new before at left now same one two keeps = subst (λ p. KeepsShut p new before now) same (keeps.0, λ shut. by_found (keeps.1 shut))
+pub keeps_shut : (old mid new : Pace) (before at left now : SeatedEnd) → mid ≡ old → IsSameEnd before at → IsSameEnd at left → KeepsShut mid new left now → KeepsShut old new before now
+keeps_shut old mid new before at left now same one two keeps = subst (λ p. KeepsShut p new before now) same (keeps.0, λ shut. by_found (keeps.1 shut))
   where
     by_found : (mid.peer_shut ≡ true) ⊎ ((end : SeatedEnd) × (count : ℕ) × IsSameEnd left end × FindsShut end now count)
         → (mid.peer_shut ≡ true) ⊎ ((end : SeatedEnd) × (count : ℕ) × IsSameEnd before end × FindsShut end now count)
     by_found (inl was) = inl was
-    by_found (inr found) = inr (found.0, found.1, same-end-then before left found.0 (same-end-then before at left one two) found.2, found.3)
+    by_found (inr found) = inr (found.0, found.1, same_end_then before left found.0 (same_end_then before at left one two) found.2, found.3)

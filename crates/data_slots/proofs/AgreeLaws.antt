@@ -12,30 +12,30 @@ use Rattle.data_slots.specs.Sessions.{Session, NotBegun, session_of, sessions_in
 use Rattle.data_slots.specs.Agreeing.{place_if_free, places_free, SessionStands, IsOpenAt, Agrees}
 use Rattle.data_slots.specs.Stages.{Frame, place_of, frame_of, use_of, is_session, IsStage}
 use Rattle.data_slots.specs.Whole.{frames, held_in, sessions, unused_at, unused_in, session_at, opened_in, IsNoted, IsWhole, state_of}
-use Rattle.data_slots.proofs.OpenLaws.{open-at}
-use Rattle.data_slots.proofs.TurnLaws.{tells-begun}
-use Rattle.data_slots.proofs.OpenedLaws.{session-here, session-told, told-place, read-any}
+use Rattle.data_slots.proofs.OpenLaws.{open_at}
+use Rattle.data_slots.proofs.TurnLaws.{tells_begun}
+use Rattle.data_slots.proofs.OpenedLaws.{session_here, session_told, told_place, read_any}
 use Rattle.std.specs.List.{cons_option, AllByRecursion as Each}
-use Rattle.list_laws.proofs.Places.{get-map, get-map-back}
-use Rattle.list_laws.proofs.Each.{each-get}
+use Rattle.list_laws.proofs.Places.{get_map, get_map_back}
+use Rattle.list_laws.proofs.Each.{each_get}
 
-one-free : (version : ℕ) (place : PagePlace) (stage : Stage) (rest : List PagePlace) → IsStage version stage → cons_option (unused_at place (use_of stage)) rest ≡ place_if_free place (session_of stage) ++ rest
-one-free version place (Unused end) rest h = refl
-one-free version place (Calls number input side session) rest h = refl
-one-free version place (Awaits number service serving side) rest h = refl
-one-free version place (Serves number service side session) rest h = refl
-one-free version place (CallIsOver number input came end) rest h = refl
-one-free version place (ServingIsOver number service came end) rest h = refl
-one-free version place Taken rest h = absurd h
+one_free : (version : ℕ) (place : PagePlace) (stage : Stage) (rest : List PagePlace) → IsStage version stage → cons_option (unused_at place (use_of stage)) rest ≡ place_if_free place (session_of stage) ++ rest
+one_free version place (Unused end) rest h = refl
+one_free version place (Calls number input side session) rest h = refl
+one_free version place (Awaits number service serving side) rest h = refl
+one_free version place (Serves number service side session) rest h = refl
+one_free version place (CallIsOver number input came end) rest h = refl
+one_free version place (ServingIsOver number service came end) rest h = refl
+one_free version place Taken rest h = absurd h
 
-all-free : (version : ℕ) (slots : List Slot) → Each (λ s. IsStage version s.stage) slots → unused_in (frames slots) ≡ places_free (map (λ (h : Held). h.place) (held_in slots)) (sessions_in slots)
-all-free version [] each = refl
-all-free version (s ∷ slots) each =
-    one-free version (place_of s) s.stage (unused_in (frames slots)) each.0 ∙ ap (λ l. place_if_free (place_of s) (session_of s.stage) ++ l) (all-free version slots each.1)
+all_free : (version : ℕ) (slots : List Slot) → Each (λ s. IsStage version s.stage) slots → unused_in (frames slots) ≡ places_free (map (λ (h : Held). h.place) (held_in slots)) (sessions_in slots)
+all_free version [] each = refl
+all_free version (s ∷ slots) each =
+    one_free version (place_of s) s.stage (unused_in (frames slots)) each.0 ∙ ap (λ l. place_if_free (place_of s) (session_of s.stage) ++ l) (all_free version slots each.1)
 
-all-stand : (version : ℕ) (slots : List Slot) → Each (λ s. IsStage version s.stage) slots → Each (SessionStands version) (sessions_in slots)
-all-stand version [] each = tt
-all-stand version (s ∷ slots) each = (by_stage s.stage each.0, all-stand version slots each.1)
+all_stand : (version : ℕ) (slots : List Slot) → Each (λ s. IsStage version s.stage) slots → Each (SessionStands version) (sessions_in slots)
+all_stand version [] each = tt
+all_stand version (s ∷ slots) each = (by_stage s.stage each.0, all_stand version slots each.1)
   where
     by_stage : (stage : Stage) → IsStage version stage → SessionStands version (session_of stage)
     by_stage (Unused end) h = tt
@@ -46,21 +46,21 @@ all-stand version (s ∷ slots) each = (by_stage s.stage each.0, all-stand versi
     by_stage (ServingIsOver number service came end) h = tt
     by_stage Taken h = absurd h
 
-still-open : (stage : Stage) → is_session stage ≡ true → is_open (session_of stage) ≡ true
-still-open (Unused end) h = cc
-still-open (Calls number input side session) h = refl
-still-open (Awaits number service serving side) h = refl
-still-open (Serves number service side session) h = refl
-still-open (CallIsOver number input came end) h = cc
-still-open (ServingIsOver number service came end) h = cc
-still-open Taken h = cc
+still_open : (stage : Stage) → is_session stage ≡ true → is_open (session_of stage) ≡ true
+still_open (Unused end) h = cc
+still_open (Calls number input side session) h = refl
+still_open (Awaits number service serving side) h = refl
+still_open (Serves number service side session) h = refl
+still_open (CallIsOver number input came end) h = cc
+still_open (ServingIsOver number service came end) h = cc
+still_open Taken h = cc
 
 pub agrees : (e : Ends) → IsWhole e → Agrees (state_of e false)
 agrees e whole = record {
   version = whole.version_is;
-  sessions = all-stand e.version slots whole.stages;
-  unused = all-free e.version slots whole.stages;
-  opened = each e.busy.items (λ k less. open-at (sessions slots) e.busy.items k (get_or e.busy.items k 0) whole.are_open less (read-any e.busy.items k less));
+  sessions = all_stand e.version slots whole.stages;
+  unused = all_free e.version slots whole.stages;
+  opened = each e.busy.items (λ k less. open_at (sessions slots) e.busy.items k (get_or e.busy.items k 0) whole.are_open less (read_any e.busy.items k less));
 }
   where
     slots : List Slot
@@ -71,19 +71,19 @@ agrees e whole = record {
 
     one : (n : ℕ) → slice_get (sessions slots) n ≡ Some true → IsOpenAt (state_of e false) (session_at fs n)
     one n is =
-        let back = get-map-back (λ (s : Slot). is_session s.stage) slots n true is in
+        let back = get_map_back (λ (s : Slot). is_session s.stage) slots n true is in
         let slot = back.0 in
-        let here : slice_get fs n ≡ Some (frame_of slot) = get-map frame_of slots n slot back.1 in
-        let told = session-told slot.from slot.to slot.port slot.stage back.2 in
-        let noted = each-get (λ f. IsNoted e.domain e.calls.items e.served.items f.held.place f.used) fs n (frame_of slot) whole.noted here in
-        let lies = told-place e.domain e.calls.items e.served.items slot.from slot.to slot.port (use_of slot.stage) told.0 noted told.1 in
-        let held : slice_get (held_in slots) n ≡ Some (frame_of slot).held = get-map (λ (s : Slot). (frame_of s).held) slots n slot back.1 in
-        let at : slice_get (sessions_in slots) n ≡ Some (session_of slot.stage) = get-map (λ (s : Slot). session_of s.stage) slots n slot back.1 in
-        subst (λ (o : SessionEnd). IsOpenAt (state_of e false) o) (sym (session-here fs n (frame_of slot) told.0 here told.1)) (record {
-          begun = tells-begun e n slot told.0 whole back.1 told.1;
+        let here : slice_get fs n ≡ Some (frame_of slot) = get_map frame_of slots n slot back.1 in
+        let told = session_told slot.from slot.to slot.port slot.stage back.2 in
+        let noted = each_get (λ f. IsNoted e.domain e.calls.items e.served.items f.held.place f.used) fs n (frame_of slot) whole.noted here in
+        let lies = told_place e.domain e.calls.items e.served.items slot.from slot.to slot.port (use_of slot.stage) told.0 noted told.1 in
+        let held : slice_get (held_in slots) n ≡ Some (frame_of slot).held = get_map (λ (s : Slot). (frame_of s).held) slots n slot back.1 in
+        let at : slice_get (sessions_in slots) n ≡ Some (session_of slot.stage) = get_map (λ (s : Slot). session_of s.stage) slots n slot back.1 in
+        subst (λ (o : SessionEnd). IsOpenAt (state_of e false) o) (sym (session_here fs n (frame_of slot) told.0 here told.1)) (record {
+          begun = tells_begun e n slot told.0 whole back.1 told.1;
           at = n;
-          place_is = get-map (λ (h : Held). h.place) (held_in slots) n (frame_of slot).held held ∙ ap (λ (p : PagePlace). Some p) (sym lies);
-          is_open = ap (λ (o : Option Session). is_open (unwrap_or o NotBegun)) at ∙ still-open slot.stage back.2;
+          place_is = get_map (λ (h : Held). h.place) (held_in slots) n (frame_of slot).held held ∙ ap (λ (p : PagePlace). Some p) (sym lies);
+          is_open = ap (λ (o : Option Session). is_open (unwrap_or o NotBegun)) at ∙ still_open slot.stage back.2;
         })
 
     each : (numbers : List ℕ) → ((k : ℕ) → k < length numbers → slice_get (sessions slots) (get_or numbers k 0) ≡ Some true) → Each (IsOpenAt (state_of e false)) (opened_in fs numbers)

@@ -3,8 +3,8 @@ use Rattle.std.proofs.Common.{◌≡◌, ℕ, List, get_or, refl, ap, sym, ◌�
 use Rattle.std.specs.Prelude.{slice_get, Bool}
 use Rattle.std.proofs.lemmas.Option.{get_or_from_slice_get}
 use Rattle.std.specs.List.{AllByRecursion as Each}
-use Rattle.list_laws.proofs.Places.{get-map, get-map-back}
-use Rattle.list_laws.proofs.Each.{each-get}
+use Rattle.list_laws.proofs.Places.{get_map, get_map_back}
+use Rattle.list_laws.proofs.Each.{each_get}
 use Rattle.ring_words.specs.declared.page.Role.{Role}
 use Rattle.ring_words.specs.declared.page.Role.TheVariants.{Server, Client}
 use Rattle.service_gate.specs.declared.builtin.Builtin.{Builtin}
@@ -25,9 +25,9 @@ pub record IsFree (slots : List Slot) (at : ℕ) (place : PagePlace) (slot : Slo
   pub unused : use_of slot.stage ≡ ForNothing
   pub lies : place_of slot ≡ place
 
-pub is-free : (slots : List Slot) (at : ℕ) (place : PagePlace) (slot : Slot) → IsUsedAt (frames slots) at place ForNothing → slot ≡ get_or slots at slot → IsFree slots at place slot
-is-free slots at place slot used read =
-    let back = get-map-back frame_of slots at (record { held = used.held; used = ForNothing; late = used.late }) used.is in
+pub is_free : (slots : List Slot) (at : ℕ) (place : PagePlace) (slot : Slot) → IsUsedAt (frames slots) at place ForNothing → slot ≡ get_or slots at slot → IsFree slots at place slot
+is_free slots at place slot used read =
+    let back = get_map_back frame_of slots at (record { held = used.held; used = ForNothing; late = used.late }) used.is in
     let same : slot ≡ back.0 = read ∙ get_or_from_slice_get slots at back.0 slot back.1 in
     record {
       here = back.1 ∙ ap Some (sym same);
@@ -35,69 +35,69 @@ is-free slots at place slot used read =
       lies = ap place_of same ∙ (ap (λ (f : Frame). f.held.place) back.2 ∙ used.lies);
     }
 
-server-role : (domain f t p : ℕ) (role : Role) → f ≡ domain → IsEndOf domain (Payload f t p) role → role ≡ Server
-server-role domain f t p Server same h = refl
-server-role domain f t p Client same h = absurd (h.1 same)
+server_role : (domain f t p : ℕ) (role : Role) → f ≡ domain → IsEndOf domain (Payload f t p) role → role ≡ Server
+server_role domain f t p Server same h = refl
+server_role domain f t p Client same h = absurd (h.1 same)
 
-client-role : (domain f t p : ℕ) (role : Role) → t ≡ domain → IsEndOf domain (Payload f t p) role → role ≡ Client
-client-role domain f t p Server same h = absurd (h.1 same)
-client-role domain f t p Client same h = refl
+client_role : (domain f t p : ℕ) (role : Role) → t ≡ domain → IsEndOf domain (Payload f t p) role → role ≡ Client
+client_role domain f t p Server same h = absurd (h.1 same)
+client_role domain f t p Client same h = refl
 
-unused-by : (version : ℕ) (role : Role) (stage : Stage) → IsStage version stage → use_of stage ≡ ForNothing → (end_of stage).role ≡ role → IsUnusedBy role stage
-unused-by version role (Unused end) h unused is = (h, is)
-unused-by version role (Calls number input side session) h unused is = absurd (bad number input.value.items unused)
+unused_by : (version : ℕ) (role : Role) (stage : Stage) → IsStage version stage → use_of stage ≡ ForNothing → (end_of stage).role ≡ role → IsUnusedBy role stage
+unused_by version role (Unused end) h unused is = (h, is)
+unused_by version role (Calls number input side session) h unused is = absurd (bad number input.value.items unused)
   where
     bad : (n : ℕ) (bytes : List ℕ) → ForCall n bytes ≡ ForNothing → ⊥
     bad n bytes e = cc
-unused-by version role (Awaits number service serving side) h unused is = absurd (bad number service.value unused)
+unused_by version role (Awaits number service serving side) h unused is = absurd (bad number service.value unused)
   where
     bad : (n : ℕ) (b : Builtin) → ForServing n b ≡ ForNothing → ⊥
     bad n b e = cc
-unused-by version role (Serves number service side session) h unused is = absurd (bad number service.value unused)
+unused_by version role (Serves number service side session) h unused is = absurd (bad number service.value unused)
   where
     bad : (n : ℕ) (b : Builtin) → ForServing n b ≡ ForNothing → ⊥
     bad n b e = cc
-unused-by version role (CallIsOver number input came end) h unused is = absurd (bad number input.value.items unused)
+unused_by version role (CallIsOver number input came end) h unused is = absurd (bad number input.value.items unused)
   where
     bad : (n : ℕ) (bytes : List ℕ) → ForCall n bytes ≡ ForNothing → ⊥
     bad n bytes e = cc
-unused-by version role (ServingIsOver number service came end) h unused is = absurd (bad number service.value unused)
+unused_by version role (ServingIsOver number service came end) h unused is = absurd (bad number service.value unused)
   where
     bad : (n : ℕ) (b : Builtin) → ForServing n b ≡ ForNothing → ⊥
     bad n b e = cc
-unused-by version role Taken h unused is = absurd h
+unused_by version role Taken h unused is = absurd h
 
-from-is : (a b c f t p : ℕ) → Payload a b c ≡ Payload f t p → a ≡ f
-from-is a b c f t p e = cc
+from_is : (a b c f t p : ℕ) → Payload a b c ≡ Payload f t p → a ≡ f
+from_is a b c f t p e = cc
 
-to-is : (a b c f t p : ℕ) → Payload a b c ≡ Payload f t p → b ≡ t
-to-is a b c f t p e = cc
+to_is : (a b c f t p : ℕ) → Payload a b c ≡ Payload f t p → b ≡ t
+to_is a b c f t p e = cc
 
 -- it is a server's if the agent calls, and a client's if it is called
-pub free-server : (domain version to port : ℕ) (slots : List Slot) (at : ℕ) (slot : Slot) → Each (λ s. IsStage version s.stage) slots → Each (λ h. IsEndOf domain h.place h.role) (held_in slots)
+pub free_server : (domain version to port : ℕ) (slots : List Slot) (at : ℕ) (slot : Slot) → Each (λ s. IsStage version s.stage) slots → Each (λ h. IsEndOf domain h.place h.role) (held_in slots)
     → IsFree slots at (Payload domain to port) slot → IsUnusedBy Server slot.stage
-free-server domain version to port slots at slot stages ends free =
-    unused-by version Server slot.stage (each-get (λ s. IsStage version s.stage) slots at slot stages free.here) free.unused
-    (server-role domain slot.from slot.to slot.port (end_of slot.stage).role (from-is slot.from slot.to slot.port domain to port free.lies)
-    (each-get (λ h. IsEndOf domain h.place h.role) (held_in slots) at (frame_of slot).held ends (get-map (λ s. (frame_of s).held) slots at slot free.here)))
+free_server domain version to port slots at slot stages ends free =
+    unused_by version Server slot.stage (each_get (λ s. IsStage version s.stage) slots at slot stages free.here) free.unused
+    (server_role domain slot.from slot.to slot.port (end_of slot.stage).role (from_is slot.from slot.to slot.port domain to port free.lies)
+    (each_get (λ h. IsEndOf domain h.place h.role) (held_in slots) at (frame_of slot).held ends (get_map (λ s. (frame_of s).held) slots at slot free.here)))
 
-pub free-client : (domain version from port : ℕ) (slots : List Slot) (at : ℕ) (slot : Slot) → Each (λ s. IsStage version s.stage) slots → Each (λ h. IsEndOf domain h.place h.role) (held_in slots)
+pub free_client : (domain version from port : ℕ) (slots : List Slot) (at : ℕ) (slot : Slot) → Each (λ s. IsStage version s.stage) slots → Each (λ h. IsEndOf domain h.place h.role) (held_in slots)
     → IsFree slots at (Payload from domain port) slot → IsUnusedBy Client slot.stage
-free-client domain version from port slots at slot stages ends free =
-    unused-by version Client slot.stage (each-get (λ s. IsStage version s.stage) slots at slot stages free.here) free.unused
-    (client-role domain slot.from slot.to slot.port (end_of slot.stage).role (to-is slot.from slot.to slot.port from domain port free.lies)
-    (each-get (λ h. IsEndOf domain h.place h.role) (held_in slots) at (frame_of slot).held ends (get-map (λ s. (frame_of s).held) slots at slot free.here)))
+free_client domain version from port slots at slot stages ends free =
+    unused_by version Client slot.stage (each_get (λ s. IsStage version s.stage) slots at slot stages free.here) free.unused
+    (client_role domain slot.from slot.to slot.port (end_of slot.stage).role (to_is slot.from slot.to slot.port from domain port free.lies)
+    (each_get (λ h. IsEndOf domain h.place h.role) (held_in slots) at (frame_of slot).held ends (get_map (λ s. (frame_of s).held) slots at slot free.here)))
 
 -- two states are the same if their lists are
-pub same-state : (domain version : ℕ) (held held' : List Held) (unused unused' late late' : List PagePlace) (called called' : List (Option Called)) (served served' : List ServedHere) (opened opened' : List SessionEnd) (are are' : List Session) (spent : Bool)
+pub same_state : (domain version : ℕ) (held held' : List Held) (unused unused' late late' : List PagePlace) (called called' : List (Option Called)) (served served' : List ServedHere) (opened opened' : List SessionEnd) (are are' : List Session) (spent : Bool)
     → held ≡ held' → unused ≡ unused' → late ≡ late' → called ≡ called' → served ≡ served' → opened ≡ opened' → are ≡ are'
     → ◌≡◌ {A = SlotsState} (record { domain = domain; version = version; held = held; unused = unused; late = late; called = called; served = served; opened = opened; sessions = are; spent = spent })
     (record { domain = domain; version = version; held = held'; unused = unused'; late = late'; called = called'; served = served'; opened = opened'; sessions = are'; spent = spent })
-same-state domain version held held' unused unused' late late' called called' served served' opened opened' are are' spent a b l c d o r =
+same_state domain version held held' unused unused' late late' called called' served served' opened opened' are are' spent a b l c d o r =
     λ i. record { domain = domain; version = version; held = a i; unused = b i; late = l i; called = c i; served = d i; opened = o i; sessions = r i; spent = spent }
 
-pub call-used : (number : ℕ) (input : List ℕ) → ForCall number input ≡ ForNothing → ⊥
-call-used number input e = cc
+pub call_used : (number : ℕ) (input : List ℕ) → ForCall number input ≡ ForNothing → ⊥
+call_used number input e = cc
 
-pub serving-used : (number : ℕ) (service : Builtin) → ForServing number service ≡ ForNothing → ⊥
-serving-used number service e = cc
+pub serving_used : (number : ℕ) (service : Builtin) → ForServing number service ≡ ForNothing → ⊥
+serving_used number service e = cc

@@ -15,64 +15,64 @@ use Rattle.data_slots.specs.Given.{unused_slots}
 use Rattle.data_slots.specs.Sides.{is_late_unused, late_places}
 use Rattle.data_slots.specs.Whole.{frames, held_in, places, sessions, unused_in, late_in, called_of, IsNoted, AreWhole}
 
-pub given-places : (ends : List DataEnd) → places (unused_slots ends) ≡ places_in (all_given ends)
-given-places [] = refl
-given-places (d ∷ ends) = ap (λ ps. (given_at d).place ∷ ps) (given-places ends)
+pub given_places : (ends : List DataEnd) → places (unused_slots ends) ≡ places_in (all_given ends)
+given_places [] = refl
+given_places (d ∷ ends) = ap (λ ps. (given_at d).place ∷ ps) (given_places ends)
 
-pub given-held : (ends : List DataEnd) → held_in (unused_slots ends) ≡ map held_at (all_given ends)
-given-held [] = refl
-given-held (d ∷ ends) = ap (λ hs. held_at (given_at d) ∷ hs) (given-held ends)
+pub given_held : (ends : List DataEnd) → held_in (unused_slots ends) ≡ map held_at (all_given ends)
+given_held [] = refl
+given_held (d ∷ ends) = ap (λ hs. held_at (given_at d) ∷ hs) (given_held ends)
 
-pub given-unused : (ends : List DataEnd) → unused_in (frames (unused_slots ends)) ≡ places_in (all_given ends)
-given-unused [] = refl
-given-unused (d ∷ ends) = ap (λ ps. (given_at d).place ∷ ps) (given-unused ends)
+pub given_unused : (ends : List DataEnd) → unused_in (frames (unused_slots ends)) ≡ places_in (all_given ends)
+given_unused [] = refl
+given_unused (d ∷ ends) = ap (λ ps. (given_at d).place ∷ ps) (given_unused ends)
 
-pub given-late : (ends : List DataEnd) → late_in (frames (unused_slots ends)) ≡ late_places ends
-given-late [] = refl
-given-late (d ∷ ends) = ap (λ ps. cons_option (if is_late_unused d.end then Some (Payload d.from d.to d.port) else None) ps) (given-late ends)
+pub given_late : (ends : List DataEnd) → late_in (frames (unused_slots ends)) ≡ late_places ends
+given_late [] = refl
+given_late (d ∷ ends) = ap (λ ps. cons_option (if is_late_unused d.end then Some (Payload d.from d.to d.port) else None) ps) (given_late ends)
 
-pub given-retire : (domain : ℕ) (ends : List DataEnd) → Each (IsGiven domain) (all_given ends) → Each (λ s. CanRetire s.stage) (unused_slots ends)
-given-retire domain [] each = tt
-given-retire domain (d ∷ ends) each = (each.0.unused.idle, given-retire domain ends each.1)
+pub given_retire : (domain : ℕ) (ends : List DataEnd) → Each (IsGiven domain) (all_given ends) → Each (λ s. CanRetire s.stage) (unused_slots ends)
+given_retire domain [] each = tt
+given_retire domain (d ∷ ends) each = (each.0.unused.idle, given_retire domain ends each.1)
 
 stages : (domain version : ℕ) (ends : List DataEnd) → Each (IsGiven domain) (all_given ends) → Each (λ s. IsStage version s.stage) (unused_slots ends)
 stages domain version [] each = tt
 stages domain version (d ∷ ends) each = (each.0.unused, stages domain version ends each.1)
 
-of-domain : (domain : ℕ) (ends : List DataEnd) → Each (IsGiven domain) (all_given ends) → Each (λ h. IsEndOf domain h.place h.role) (held_in (unused_slots ends))
-of-domain domain [] each = tt
-of-domain domain (d ∷ ends) each = (each.0.of_domain, of-domain domain ends each.1)
+of_domain_lem : (domain : ℕ) (ends : List DataEnd) → Each (IsGiven domain) (all_given ends) → Each (λ h. IsEndOf domain h.place h.role) (held_in (unused_slots ends))
+of_domain_lem domain [] each = tt
+of_domain_lem domain (d ∷ ends) each = (each.0.of_domain, of_domain_lem domain ends each.1)
 
-all-shut : (ends : List DataEnd) (i : ℕ) → unwrap_or (slice_get (sessions (unused_slots ends)) i) false ≡ false
-all-shut [] i = refl
-all-shut (d ∷ ends) zero = refl
-all-shut (d ∷ ends) (suc i) = all-shut ends i
+all_shut : (ends : List DataEnd) (i : ℕ) → unwrap_or (slice_get (sessions (unused_slots ends)) i) false ≡ false
+all_shut [] i = refl
+all_shut (d ∷ ends) zero = refl
+all_shut (d ∷ ends) (suc i) = all_shut ends i
 
-no-call : (count number : ℕ) (n : CallNote) → slice_get (replicate count None) number ≡ Some (Some n) → ⊥
-no-call zero number n h = cc
-no-call (suc count) zero n h = bad h
+no_call : (count number : ℕ) (n : CallNote) → slice_get (replicate count None) number ≡ Some (Some n) → ⊥
+no_call zero number n h = cc
+no_call (suc count) zero n h = bad h
   where
     bad : ◌≡◌ {A = Option (Option CallNote)} (Some None) (Some (Some n)) → ⊥
     bad h = cc
-no-call (suc count) (suc number) n h = no-call count number n h
+no_call (suc count) (suc number) n h = no_call count number n h
 
 noted : (domain : ℕ) (calls : List (Option CallNote)) (served : List ServedNote) (ends : List DataEnd) → Each (λ f. IsNoted domain calls served f.held.place f.used) (frames (unused_slots ends))
 noted domain calls served [] = tt
 noted domain calls served (d ∷ ends) = (tt, noted domain calls served ends)
 
-pub called-none : (count : ℕ) → map (option_map called_of) (replicate count None) ≡ replicate count None
-called-none zero = refl
-called-none (suc count) = ap (λ (os : List (Option Called)). None ∷ os) (called-none count)
+pub called_none : (count : ℕ) → map (option_map called_of) (replicate count None) ≡ replicate count None
+called_none zero = refl
+called_none (suc count) = ap (λ (os : List (Option Called)). None ∷ os) (called_none count)
 
-pub given-whole : (domain version : ℕ) (ends : List DataEnd) (index : PlaceIndex) (count : ℕ) → (2 ≤ version) × (version ≤ 3) → Each (IsGiven domain) (all_given ends) → IsIndexOf (places (unused_slots ends)) index
+pub given_whole : (domain version : ℕ) (ends : List DataEnd) (index : PlaceIndex) (count : ℕ) → (2 ≤ version) × (version ≤ 3) → Each (IsGiven domain) (all_given ends) → IsIndexOf (places (unused_slots ends)) index
     → AreWhole domain version (unused_slots ends) index [] (replicate count None) []
-given-whole domain version ends index count version_is given indexed = record {
+given_whole domain version ends index count version_is given indexed = record {
   version_is = version_is;
   stages = stages domain version ends given;
-  of_domain = of-domain domain ends given;
+  of_domain = of_domain_lem domain ends given;
   indexed = indexed;
-  are_open = λ i. ap (λ (b : Bool). if b then 1 else 0) (sym (all-shut ends i));
-  have_ends = record { called = λ m n is. absurd (no-call count m n is); serving = λ m n is. absurd (none m n is) };
+  are_open = λ i. ap (λ (b : Bool). if b then 1 else 0) (sym (all_shut ends i));
+  have_ends = record { called = λ m n is. absurd (no_call count m n is); serving = λ m n is. absurd (none m n is) };
   noted = noted domain (replicate count None) [] ends;
 }
   where

@@ -11,15 +11,15 @@ use Rattle.vchan_protocol.specs.History.Core.{begins, made}
 use Rattle.vchan_protocol.specs.Honest.LifeLaw.{SaysOrders}
 use Rattle.vchan_protocol.specs.Always.Invariant.{PageSettled, StreamSettled}
 use Rattle.vchan_protocol.specs.OneEnd.OneCall.{IsOver, side_along}
-use Rattle.vchan_protocol.proofs.OneEnd.OneCallWay.{over_tells, along-role}
+use Rattle.vchan_protocol.proofs.OneEnd.OneCallWay.{over_tells, along_role}
 use Rattle.end_view.specs.EndView.{view_of, hostile_trail}
 use Rattle.end_view.specs.AfterCall.{ViewAfterCall, SeesAsTold}
 use Rattle.end_view.specs.Settled.{settled_view, AreDone, IsSettled, IsHonestRing, IsTurnedRing}
 use Rattle.end_view.proofs.NoteLaws.{notes_told}
 
-along-consumed : (s : Side) (events : List PastEvent) → (side_along s events).consumed ≡ s.consumed
-along-consumed s [] = refl
-along-consumed s (event ∷ events) = along-consumed (made s event.op event.taken) events
+along_consumed : (s : Side) (events : List PastEvent) → (side_along s events).consumed ≡ s.consumed
+along_consumed s [] = refl
+along_consumed s (event ∷ events) = along_consumed (made s event.op event.taken) events
 
 -- an honest end shows no trail
 no_trail : (turned : Bool) (trail : List PastEvent) → turned ≡ false → hostile_trail turned trail ≡ []
@@ -31,8 +31,8 @@ view_after page was call payload start s buffer answer honest may over =
     let t = over_tells was call payload start s buffer answer over in
     let n = notes_told was call payload s.trail answer may over.trace in
     let began = begins was call payload in
-    let role = ap (λ (z : Side). z.role) over.is ∙ along-role began s.trail in
-    let consumed = ap (λ (z : Side). z.consumed) over.is ∙ along-consumed began s.trail in
+    let role = ap (λ (z : Side). z.role) over.is ∙ along_role began s.trail in
+    let consumed = ap (λ (z : Side). z.consumed) over.is ∙ along_consumed began s.trail in
     let state = ap (λ (z : Side). z.state) over.is ∙ n.0 in
     let retired = ap (λ (z : Side). z.retired) over.is ∙ n.2 in
     let trail = no_trail s.turned s.trail (t.turned ∙ honest) ∙ sym (no_trail was.turned was.trail honest) in

@@ -17,12 +17,12 @@ use Rattle.vchan_protocol.specs.Table.Ends.{written_ring}
 use Rattle.hostile_seat.specs.Hostile.{strays_along, byte_stores}
 
 -- one more byte after the others
-pub byte_stores-push : (role : Role) (orders : Orders) (index : ℕ) (bytes : List ℕ) (byte : ℕ) →
+pub byte_stores_push : (role : Role) (orders : Orders) (index : ℕ) (bytes : List ℕ) (byte : ℕ) →
     byte_stores role orders index (bytes ++ byte ∷ []) ≡ byte_stores role orders index bytes ++ past (Store (RingByte (written_ring role) (place (index + length bytes) (order_of orders (written_ring role)))) byte) 0 ∷ []
-byte_stores-push role orders index [] byte = ap (λ (n : ℕ). past (Store (RingByte (written_ring role) (place n (order_of orders (written_ring role)))) byte) 0 ∷ []) (omega arith)
-byte_stores-push role orders index (first ∷ bytes) byte =
+byte_stores_push role orders index [] byte = ap (λ (n : ℕ). past (Store (RingByte (written_ring role) (place n (order_of orders (written_ring role)))) byte) 0 ∷ []) (omega arith)
+byte_stores_push role orders index (first ∷ bytes) byte =
     ap (λ (events : List PastEvent). past (Store (RingByte (written_ring role) (place index (order_of orders (written_ring role)))) first) 0 ∷ events)
-    (byte_stores-push role orders (index + 1) bytes byte
+    (byte_stores_push role orders (index + 1) bytes byte
     ∙ ap (λ (n : ℕ). byte_stores role orders (index + 1) bytes ++ past (Store (RingByte (written_ring role) (place n (order_of orders (written_ring role)))) byte) 0 ∷ []) (omega arith))
 
 -- ---- an end along the events of its hostile user
@@ -49,7 +49,7 @@ stored_more s now index at byte lies bytes is less value there =
     let lies_at : lies ≡ place (index + length (take at bytes)) order = there ∙ place_wraps (index + at) order ∙ ap (λ (n : ℕ). place (index + n) order) (sym few) in
     (λ i. strays (is i) (Store (RingByte (written_ring s.role) (lies_at i)) (value i)) 0)
     ∙ sym (along_push s (byte_stores s.role s.orders index (take at bytes)) (Store (RingByte (written_ring s.role) (place (index + length (take at bytes)) order)) (slice_index bytes at)) 0)
-    ∙ ap (λ (events : List PastEvent). strays_along s events) (sym (byte_stores-push s.role s.orders index (take at bytes) (slice_index bytes at)) ∙ ap (λ (xs : List ℕ). byte_stores s.role s.orders index xs) (sym (take_more bytes at 0 less)))
+    ∙ ap (λ (events : List PastEvent). strays_along s events) (sym (byte_stores_push s.role s.orders index (take at bytes) (slice_index bytes at)) ∙ ap (λ (xs : List ℕ). byte_stores s.role s.orders index xs) (sym (take_more bytes at 0 less)))
 
 pub along_trail : (s : Side) (events : List PastEvent) → (strays_along s events).trail ≡ s.trail ++ events
 along_trail s [] = sym (append-nil s.trail)

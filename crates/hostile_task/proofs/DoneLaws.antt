@@ -5,7 +5,7 @@ use Rattle.std.specs.Option.{option_and_then}
 use Rattle.std.proofs.lemmas.List.{append-nil}
 use Rattle.std.proofs.lemmas.Option.{slice_get_past}
 use Rattle.std.proofs.Math.Seq.{take-length}
-use Rattle.list_laws.proofs.Each.{each-through}
+use Rattle.list_laws.proofs.Each.{each_through}
 use Rattle.ring_words.specs.declared.page.Role.{Role}
 use Rattle.ring_words.specs.declared.page.Role.TheVariants.{Server}
 use Rattle.vchan_protocol.specs.declared.op.PastEvent.{PastEvent}
@@ -24,7 +24,7 @@ use Rattle.task_duties.specs.GivenEnds.{done_view, retired_at, all_retired}
 use Rattle.task_duties.specs.Hostile.Given.{HostilePlan}
 use Rattle.task_duties.specs.Hostile.Stores.{loaded, stores_of, role_at}
 use Rattle.task_duties.specs.Hostile.Trail.{words_of, first_voice, retiring, IsTrail}
-use Rattle.task_duties.proofs.Places.{same-self}
+use Rattle.task_duties.proofs.Places.{same_self}
 use Rattle.hostile_task.specs.declared.domain.HostileDomain.{HostileDomain}
 use Rattle.hostile_task.specs.declared.page.TurnedPage.{TurnedPage}
 use Rattle.hostile_task.specs.declared.pages.Pages.{Pages}
@@ -54,11 +54,11 @@ pairs_of_pairs R P S f g [] (y ∷ ys) gives pairs all = absurd pairs
 pairs_of_pairs R P S f g (x ∷ xs) [] gives pairs all = absurd pairs
 pairs_of_pairs R P S f g (x ∷ xs) (y ∷ ys) gives pairs all = (gives x y pairs.0 all.0, pairs_of_pairs R P S f g xs ys gives pairs.1 all.1)
 
-map-pairs : {A B C : Type 0} (R : A → B → Type 0) (f : A → C) (g : B → C) (xs : List A) (ys : List B) → ((x : A) (y : B) → R x y → g y ≡ f x) → EachPair R xs ys → map g ys ≡ map f xs
-map-pairs R f g [] [] same pairs = refl
-map-pairs R f g [] (y ∷ ys) same pairs = absurd pairs
-map-pairs R f g (x ∷ xs) [] same pairs = absurd pairs
-map-pairs R f g (x ∷ xs) (y ∷ ys) same pairs = λ i. same x y pairs.0 i ∷ map-pairs R f g xs ys same pairs.1 i
+map_pairs : {A B C : Type 0} (R : A → B → Type 0) (f : A → C) (g : B → C) (xs : List A) (ys : List B) → ((x : A) (y : B) → R x y → g y ≡ f x) → EachPair R xs ys → map g ys ≡ map f xs
+map_pairs R f g [] [] same pairs = refl
+map_pairs R f g [] (y ∷ ys) same pairs = absurd pairs
+map_pairs R f g (x ∷ xs) [] same pairs = absurd pairs
+map_pairs R f g (x ∷ xs) (y ∷ ys) same pairs = λ i. same x y pairs.0 i ∷ map_pairs R f g xs ys same pairs.1 i
 
 -- ---- the end at a place
 
@@ -70,7 +70,7 @@ are_at : (none : EndView) (ends : List EndAt) → AreApart (map (λ e. e.place) 
 unfolding end_at
 are_at none [] apart = tt
 are_at none (e ∷ ends) apart =
-    (ap (λ (test : Bool). if test then e.view else end_at none ends e.place) (sym (same-self e.place)), later ends apart.0 (are_at none ends apart.1))
+    (ap (λ (test : Bool). if test then e.view else end_at none ends e.place) (sym (same_self e.place)), later ends apart.0 (are_at none ends apart.1))
   where
     later : (others : List EndAt) → Each (λ q. is_place e.place q ≡ false) (map (λ o. o.place) others) → Each (λ o. o.view ≡ end_at none ends o.place) others
         → Each (λ o. o.view ≡ (if is_place e.place o.place then e.view else end_at none ends o.place)) others
@@ -124,7 +124,7 @@ page_from plan p page r retired so_far = record {
 are_back : (plan : HostilePlan) (p : Progress) (every : List TurnedPage) (rs : List RetiredEnd) → Each (IsPageSoFar plan p) every → EachPair IsRetiredOf every rs → AreGivenBack true (map given_of every) (all_retired rs)
 are_back plan p every rs so_far retired = record {
   same = pairs_of_pairs IsRetiredOf (IsPageSoFar plan p) IsSameEnd given_of retired_at every rs (λ page r is here. page_same plan p page r is here) retired so_far;
-  turned_are = each-through (λ e. e.view.turned ≡ true) retired_at rs
+  turned_are = each_through (λ e. e.view.turned ≡ true) retired_at rs
       (each_of_pairs IsRetiredOf (IsPageSoFar plan p) (λ r. (done_view r.retired).turned ≡ true) every rs (λ page r is here. page_turned plan p page r is here) retired so_far);
 }
 
@@ -149,7 +149,7 @@ done_pays domain pages p spelled (turn.Done done) way all finishes = (
       back = back;
       are = are_at (view pages.control.given.value) ends (subst (λ (ps : List PagePlace). AreApart ps) (sym places) way.apart);
     },
-    each-through (λ e. IsTrail plan e.place e.view.trail) retired_at done.ends.items
+    each_through (λ e. IsTrail plan e.place e.view.trail) retired_at done.ends.items
         (each_of_pairs IsRetiredOf (IsPageSoFar plan p) (λ r. IsTrail plan r.place (done_view r.retired).trail) every done.ends.items (λ page r retired so_far. page_done plan p page r all retired so_far) finishes.1 way.so_far),
     pairs_of_pairs IsRetiredOf (IsPageSoFar plan p) IsTurnedFrom given_of retired_at every done.ends.items (λ page r retired so_far. page_from plan p page r retired so_far) finishes.1 way.so_far,
   ),
@@ -172,4 +172,4 @@ done_pays domain pages p spelled (turn.Done done) way all finishes = (
     map_places (r ∷ rs) = ap (λ (ps : List PagePlace). r.place ∷ ps) (map_places rs)
 
     places : map (λ e. e.place) ends ≡ places_in pages
-    places = map_places done.ends.items ∙ map-pairs IsRetiredOf (λ q. q.place) (λ r. r.place) every done.ends.items (λ page r retired. retired.place) finishes.1
+    places = map_places done.ends.items ∙ map_pairs IsRetiredOf (λ q. q.place) (λ r. r.place) every done.ends.items (λ page r retired. retired.place) finishes.1

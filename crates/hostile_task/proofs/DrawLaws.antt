@@ -11,7 +11,7 @@ use Rattle.task_duties.specs.Places.{is_place}
 use Rattle.scenario_file.specs.Generator.{Drawn, drawn, next_number}
 use Rattle.task_duties.specs.Hostile.Given.{HostilePlan}
 use Rattle.task_duties.specs.Hostile.Stores.{field_of, header_words, stored, drawn_on, scribbled}
-use Rattle.task_duties.proofs.Places.{same-self}
+use Rattle.task_duties.proofs.Places.{same_self}
 use Rattle.ring_words.specs.declared.page.WordName.{WordName}
 use Rattle.ring_words.specs.declared.page.WordName.TheVariants.{LeftCons, SrvNotify}
 use Rattle.hostile_task.specs.declared.page.TurnedPage.{TurnedPage}
@@ -22,15 +22,15 @@ use Rattle.hostile_task.proofs.PageLaws.{are_after_none, are_after_then, are_sam
 use Rattle.std.specs.List.{flat_map, AllByRecursion as Each}
 use Rattle.std.proofs.lemmas.List.{append-nil, length-map}
 use Rattle.std.proofs.lemmas.Grind.{flat_map-append}
-use Rattle.list_laws.proofs.Tests.{equal-either-way}
+use Rattle.list_laws.proofs.Tests.{equal_either_way}
 
 -- ---- places
 
-pub is_place-comm : (p q : PagePlace) → is_place p q ≡ is_place q p
-is_place-comm (Control d) (Control e) = equal-either-way d e
-is_place-comm (Control d) (Payload from to port) = refl
-is_place-comm (Payload from to port) (Control d) = refl
-is_place-comm (Payload f t p) (Payload from to port) = λ i. (equal-either-way f from i && equal-either-way t to i) && equal-either-way p port i
+pub is_place_comm : (p q : PagePlace) → is_place p q ≡ is_place q p
+is_place_comm (Control d) (Control e) = equal_either_way d e
+is_place_comm (Control d) (Payload from to port) = refl
+is_place_comm (Payload from to port) (Control d) = refl
+is_place_comm (Payload f t p) (Payload from to port) = λ i. (equal_either_way f from i && equal_either_way t to i) && equal_either_way p port i
 
 -- the store of the page at an index, and no other
 abbrev pub falls_on : List PagePlace → ℕ → PastEvent → PagePlace → List PastEvent
@@ -48,15 +48,15 @@ on test event = if test then event ∷ [] else []
 untouched : (q : PagePlace) (event : PastEvent) (xs : List TurnedPage) → Each (λ r. is_place q r ≡ false) (map (λ p. p.place) xs) → xs ≡ map (λ p. after_events p (on (is_place p.place q) event)) xs
 untouched q event [] apart = refl
 untouched q event (x ∷ xs) apart =
-    λ i. after_events x (on ((sym apart.0 ∙ is_place-comm q x.place) i) event) ∷ untouched q event xs apart.1 i
+    λ i. after_events x (on ((sym apart.0 ∙ is_place_comm q x.place) i) event) ∷ untouched q event xs apart.1 i
 
 -- a store to the page at an index
-pub set-falls_on : (xs : List TurnedPage) (at : ℕ) (d : TurnedPage) (event : PastEvent) → AreApart (map (λ p. p.place) xs) → at < length xs
+pub set_falls_on : (xs : List TurnedPage) (at : ℕ) (d : TurnedPage) (event : PastEvent) → AreApart (map (λ p. p.place) xs) → at < length xs
     → slice_set xs at (after_events (slice_index_or xs at d) (event ∷ [])) ≡ map (λ p. after_events p (falls_on (map (λ p. p.place) xs) at event p.place)) xs
-set-falls_on [] at d event apart less = absurd (omega arith)
-set-falls_on (x ∷ xs) zero d event apart less = λ i. after_events x (on (sym (same-self x.place) i) event) ∷ untouched x.place event xs apart.0 i
-set-falls_on (x ∷ xs) (suc n) d event apart less =
-    λ i. after_events x (on (sym (not_at x.place (map (λ p. p.place) xs) n apart.0) i) event) ∷ set-falls_on xs n d event apart.1 (omega arith) i
+set_falls_on [] at d event apart less = absurd (omega arith)
+set_falls_on (x ∷ xs) zero d event apart less = λ i. after_events x (on (sym (same_self x.place) i) event) ∷ untouched x.place event xs apart.0 i
+set_falls_on (x ∷ xs) (suc n) d event apart less =
+    λ i. after_events x (on (sym (not_at x.place (map (λ p. p.place) xs) n apart.0) i) event) ∷ set_falls_on xs n d event apart.1 (omega arith) i
 
 -- ---- fields
 
@@ -95,7 +95,7 @@ after_draw plan d p = after_events p (drawn_on plan p.place d)
 all_drawn : (plan : HostilePlan) (all : List TurnedPage) (d : Drawn) (at : ℕ) (dflt : TurnedPage) → plan.places ≡ map (λ p. p.place) all → AreApart (map (λ p. p.place) all) → at ≡ d.page % length all → at < length all
     → slice_set all at (after_events (slice_index_or all at dflt) (drawn_event d ∷ [])) ≡ map (after_draw plan d) all
 all_drawn plan all d at dflt places apart is less =
-    set-falls_on all at dflt (drawn_event d) apart less
+    set_falls_on all at dflt (drawn_event d) apart less
     ∙ (λ i. map (λ p. after_events p (drawn_falls plan all d at places is p.place i)) all)
 
 -- it falls on the first page

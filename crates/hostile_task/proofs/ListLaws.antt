@@ -8,39 +8,39 @@ map_first f zero xs = xs
 map_first f (suc n) [] = []
 map_first f (suc n) (x ∷ xs) = f x ∷ map_first f n xs
 
-pub map_first-here : {A : Type 0} (f : A → A) (i : ℕ) (xs : List A) (d : A) → slice_index_or (map_first f i xs) i d ≡ slice_index_or xs i d
-map_first-here f zero xs d = refl
-map_first-here f (suc n) [] d = refl
-map_first-here f (suc n) (x ∷ xs) d = map_first-here f n xs d
+pub map_first_here : {A : Type 0} (f : A → A) (i : ℕ) (xs : List A) (d : A) → slice_index_or (map_first f i xs) i d ≡ slice_index_or xs i d
+map_first_here f zero xs d = refl
+map_first_here f (suc n) [] d = refl
+map_first_here f (suc n) (x ∷ xs) d = map_first_here f n xs d
 
-pub set-map_first : {A : Type 0} (f : A → A) (i : ℕ) (xs : List A) (d : A) → i < length xs → slice_set (map_first f i xs) i (f (slice_index_or xs i d)) ≡ map_first f (suc i) xs
-set-map_first f i [] d less = absurd (omega arith)
-set-map_first f zero (x ∷ xs) d less = refl
-set-map_first {A} f (suc n) (x ∷ xs) d less = ap (λ (ys : List A). f x ∷ ys) (set-map_first f n xs d (omega arith))
+pub set_map_first : {A : Type 0} (f : A → A) (i : ℕ) (xs : List A) (d : A) → i < length xs → slice_set (map_first f i xs) i (f (slice_index_or xs i d)) ≡ map_first f (suc i) xs
+set_map_first f i [] d less = absurd (omega arith)
+set_map_first f zero (x ∷ xs) d less = refl
+set_map_first {A} f (suc n) (x ∷ xs) d less = ap (λ (ys : List A). f x ∷ ys) (set_map_first f n xs d (omega arith))
 
-pub map_first-all : {A : Type 0} (f : A → A) (i : ℕ) (xs : List A) → length xs ≤ i → map_first f i xs ≡ map f xs
-map_first-all f zero [] within = refl
-map_first-all f zero (x ∷ xs) within = absurd (omega arith)
-map_first-all f (suc n) [] within = refl
-map_first-all {A} f (suc n) (x ∷ xs) within = ap (λ (ys : List A). f x ∷ ys) (map_first-all f n xs (omega arith))
+pub map_first_all : {A : Type 0} (f : A → A) (i : ℕ) (xs : List A) → length xs ≤ i → map_first f i xs ≡ map f xs
+map_first_all f zero [] within = refl
+map_first_all f zero (x ∷ xs) within = absurd (omega arith)
+map_first_all f (suc n) [] within = refl
+map_first_all {A} f (suc n) (x ∷ xs) within = ap (λ (ys : List A). f x ∷ ys) (map_first_all f n xs (omega arith))
 
-pub length-map_first : {A : Type 0} (f : A → A) (i : ℕ) (xs : List A) → length (map_first f i xs) ≡ length xs
-length-map_first f zero xs = refl
-length-map_first f (suc n) [] = refl
-length-map_first f (suc n) (x ∷ xs) = ap (λ (k : ℕ). suc k) (length-map_first f n xs)
+pub length_map_first : {A : Type 0} (f : A → A) (i : ℕ) (xs : List A) → length (map_first f i xs) ≡ length xs
+length_map_first f zero xs = refl
+length_map_first f (suc n) [] = refl
+length_map_first f (suc n) (x ∷ xs) = ap (λ (k : ℕ). suc k) (length_map_first f n xs)
 
 -- one element more is changed
 pub map_more : {A : Type 0} (f : A → A) (i : ℕ) (xs items : List A) (d new : A) → items ≡ map_first f i xs → i < length items → new ≡ f (slice_index_or items i d) → slice_set items i new ≡ map_first f (i + 1) xs
 map_more {A} f i xs items d new are less is =
-    let few : i < length xs = omega (arith, length-map_first f i xs, ap length are) in
-    let at : slice_index_or items i d ≡ slice_index_or xs i d = ap (λ (ys : List A). slice_index_or ys i d) are ∙ map_first-here f i xs d in
-    (λ k. slice_set (are k) i ((is ∙ ap f at) k)) ∙ set-map_first f i xs d few ∙ ap (λ (n : ℕ). map_first f n xs) (sym (add-one i))
+    let few : i < length xs = omega (arith, length_map_first f i xs, ap length are) in
+    let at : slice_index_or items i d ≡ slice_index_or xs i d = ap (λ (ys : List A). slice_index_or ys i d) are ∙ map_first_here f i xs d in
+    (λ k. slice_set (are k) i ((is ∙ ap f at) k)) ∙ set_map_first f i xs d few ∙ ap (λ (n : ℕ). map_first f n xs) (sym (add-one i))
 
 -- ---- each element
 
-pub map-map : {A B C : Type 0} (f : A → B) (g : B → C) (xs : List A) → map g (map f xs) ≡ map (λ x. g (f x)) xs
-map-map f g [] = refl
-map-map {A} {B} {C} f g (x ∷ xs) = ap (λ (ys : List C). g (f x) ∷ ys) (map-map f g xs)
+pub map_map : {A B C : Type 0} (f : A → B) (g : B → C) (xs : List A) → map g (map f xs) ≡ map (λ x. g (f x)) xs
+map_map f g [] = refl
+map_map {A} {B} {C} f g (x ∷ xs) = ap (λ (ys : List C). g (f x) ∷ ys) (map_map f g xs)
 
 -- ---- lists in step
 

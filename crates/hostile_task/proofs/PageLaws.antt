@@ -11,7 +11,7 @@ use Rattle.hostile_task.specs.declared.page.TurnedPage.{TurnedPage}
 use Rattle.hostile_task.specs.declared.pages.Pages.{Pages}
 use Rattle.hostile_task.specs.Saying.{side_after}
 use Rattle.hostile_task.specs.Pages.{after_events, AreAfter, AreSamePages, given_of}
-use Rattle.hostile_task.proofs.ListLaws.{map-map}
+use Rattle.hostile_task.proofs.ListLaws.{map_map}
 
 -- ---- one end
 
@@ -35,7 +35,7 @@ are_after_then first more old between new before behind = record {
   control = behind.control ∙ ap (λ (p : TurnedPage). after_events p (more p.place)) before.control ∙ after_then old.control (first old.control.place) (more old.control.place);
   payload =
       behind.payload ∙ ap (λ (ps : List TurnedPage). map (λ p. after_events p (more p.place)) ps) before.payload
-      ∙ map-map (λ p. after_events p (first p.place)) (λ p. after_events p (more p.place)) old.payload.items
+      ∙ map_map (λ p. after_events p (first p.place)) (λ p. after_events p (more p.place)) old.payload.items
       ∙ all old.payload.items;
 }
   where

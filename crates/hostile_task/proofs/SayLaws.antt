@@ -5,7 +5,7 @@ use Rattle.std.proofs.lemmas.Bool.{cases_lt}
 use Rattle.std.proofs.Math.Seq.{take-append_seam}
 use Rattle.ring_words.specs.Rings.{room}
 use Rattle.ring_words.specs.Page.{order_of}
-use Rattle.ring_words.proofs.RingLaws.{size-within, room_within}
+use Rattle.ring_words.proofs.RingLaws.{size_within, room_within}
 use Rattle.vchan_protocol.specs.declared.op.PastEvent.{PastEvent}
 use Rattle.vchan_protocol.specs.Table.Ends.{written_ring, low32}
 use Rattle.ring_words.specs.declared.page.Role.TheVariants.{Server}
@@ -23,12 +23,12 @@ step s cons = record {
   left = drop (fits s.voice s.left cons) s.left;
 }
 
-said-push : (v : Voice) (bytes loads : List ℕ) (cons : ℕ) → said v bytes (loads ++ cons ∷ []) ≡ step (said v bytes loads) cons
-said-push v bytes [] cons = λ i. record { events = append-nil (said_once v bytes cons) i; voice = moved v (fits v bytes cons); left = drop (fits v bytes cons) bytes }
-said-push v bytes (first ∷ loads) cons =
+said_push : (v : Voice) (bytes loads : List ℕ) (cons : ℕ) → said v bytes (loads ++ cons ∷ []) ≡ step (said v bytes loads) cons
+said_push v bytes [] cons = λ i. record { events = append-nil (said_once v bytes cons) i; voice = moved v (fits v bytes cons); left = drop (fits v bytes cons) bytes }
+said_push v bytes (first ∷ loads) cons =
     let once = said_once v bytes first in
     let next = said (moved v (fits v bytes first)) (drop (fits v bytes first) bytes) loads in
-    ap (λ (s : Saying). record s { events = once ++ s.events }) (said-push (moved v (fits v bytes first)) (drop (fits v bytes first) bytes) loads cons)
+    ap (λ (s : Saying). record s { events = once ++ s.events }) (said_push (moved v (fits v bytes first)) (drop (fits v bytes first) bytes) loads cons)
     ∙ (λ i. record { events = sym (append_assoc once next.events (said_once next.voice next.left cons)) i; voice = moved next.voice (fits next.voice next.left cons); left = drop (fits next.voice next.left cons) next.left })
 
 -- nothing is sent yet
@@ -44,9 +44,9 @@ nothing_said v bytes p own turns none = record {
 }
 
 -- no ring has more room than a mebibyte
-pub fits-room : (v : Voice) (bytes : List ℕ) (cons : ℕ) → fits v bytes cons ≡ min (length bytes) (room v.own (low32 cons) (order_of v.orders (written_ring Server)))
-fits-room v bytes cons =
-    omega (arith, (size-within (order_of v.orders (written_ring Server))).1, room_within v.own (low32 cons) (order_of v.orders (written_ring Server)))
+pub fits_room : (v : Voice) (bytes : List ℕ) (cons : ℕ) → fits v bytes cons ≡ min (length bytes) (room v.own (low32 cons) (order_of v.orders (written_ring Server)))
+fits_room v bytes cons =
+    omega (arith, (size_within (order_of v.orders (written_ring Server))).1, room_within v.own (low32 cons) (order_of v.orders (written_ring Server)))
 
 -- so the act is over if nothing is left, or after the last turn
 pub says_no_more : (v : Voice) (bytes : List ℕ) (p : Progress) (events : List PastEvent) → SaysSoFar v bytes p events → p.turns ≤ 1024 → (length bytes ≤ p.said) ⊎ (p.turns ≡ 1024) → IsSaying v (voice_at v p) bytes events
@@ -65,17 +65,17 @@ says_no_more v bytes p events so_far few stops = record {
     drop_all (x ∷ xs) zero within = absurd (omega arith)
     drop_all (x ∷ xs) (suc n) within = drop_all xs n (omega arith)
 
-drop-none : (k : ℕ) → drop {A = ℕ} k [] ≡ []
-drop-none zero = refl
-drop-none (suc k) = refl
+drop_none : (k : ℕ) → drop {A = ℕ} k [] ≡ []
+drop_none zero = refl
+drop_none (suc k) = refl
 
-drop-add : (xs : List ℕ) (m n : ℕ) → drop (m + n) xs ≡ drop n (drop m xs)
-drop-add xs zero n = ap (λ (k : ℕ). drop k xs) (zero-add n)
-drop-add [] (suc m) n = drop-none (suc m + n) ∙ sym (drop-none n)
-drop-add (x ∷ xs) (suc m) n = ap (λ (k : ℕ). drop k (x ∷ xs)) (suc-plus m n) ∙ drop-add xs m n
+drop_add : (xs : List ℕ) (m n : ℕ) → drop (m + n) xs ≡ drop n (drop m xs)
+drop_add xs zero n = ap (λ (k : ℕ). drop k xs) (zero-add n)
+drop_add [] (suc m) n = drop_none (suc m + n) ∙ sym (drop_none n)
+drop_add (x ∷ xs) (suc m) n = ap (λ (k : ℕ). drop k (x ∷ xs)) (suc_plus m n) ∙ drop_add xs m n
   where
-    suc-plus : (a b : ℕ) → suc a + b ≡ suc (a + b)
-    suc-plus a b = omega arith
+    suc_plus : (a b : ℕ) → suc a + b ≡ suc (a + b)
+    suc_plus a b = omega arith
 
 -- one more turn of sending
 pub says_more : (v : Voice) (bytes : List ℕ) (p next : Progress) (events : List PastEvent) (cons : ℕ) → SaysSoFar v bytes p events → p.said < length bytes
@@ -83,7 +83,7 @@ pub says_more : (v : Voice) (bytes : List ℕ) (p next : Progress) (events : Lis
     → SaysSoFar v bytes next (events ++ said_once (voice_at v p) (drop p.said bytes) cons)
 says_more v bytes p next events cons so_far some turns count own =
     let before = said v bytes so_far.loads in
-    let push = said-push v bytes so_far.loads cons in
+    let push = said_push v bytes so_far.loads cons in
     let voice = so_far.voice_is in
     let left = so_far.left_is in
     let n = fits (voice_at v p) (drop p.said bytes) cons in
@@ -93,7 +93,7 @@ says_more v bytes p next events cons so_far some turns count own =
       events_are = (λ i. so_far.events_are i ++ said_once (voice i) (left i) cons) ∙ ap (λ (s : Saying). s.events) (sym push);
       voice_is = (λ i. record v { own = own i }) ∙ (λ i. moved (voice i) (fits (voice i) (left i) cons)) ∙ ap (λ (s : Saying). s.voice) (sym push);
       within = omega (arith, count, length-drop p.said bytes);
-      left_is = ap (λ (k : ℕ). drop k bytes) count ∙ drop-add bytes p.said n ∙ (λ i. drop (fits (voice i) (left i) cons) (left i)) ∙ ap (λ (s : Saying). s.left) (sym push);
+      left_is = ap (λ (k : ℕ). drop k bytes) count ∙ drop_add bytes p.said n ∙ (λ i. drop (fits (voice i) (left i) cons) (left i)) ∙ ap (λ (s : Saying). s.left) (sym push);
       goes_on = λ k less. ⊎_elim
           (λ earlier. subst (λ (ls : List ℕ). (said v bytes ls).left ≢ []) (sym (take-append-le k so_far.loads (cons ∷ []) (omega (arith, earlier)))) (so_far.goes_on k earlier))
           (λ last.
@@ -113,7 +113,7 @@ says_turn v bytes p next events old new left taken count so_far orders role some
     let voice = voice_at v p in
     let rest = drop p.said bytes in
     let same : count ≡ fits voice rest taken =
-    counted ∙ (λ i. min (length (left_is i)) (room p.own (low32 taken) (order_of (sym orders i) (written_ring (role i))))) ∙ sym (fits-room voice rest taken) in
+    counted ∙ (λ i. min (length (left_is i)) (room p.own (low32 taken) (order_of (sym orders i) (written_ring (role i))))) ∙ sym (fits_room voice rest taken) in
     let index : next.own ≡ (moved voice (fits voice rest taken)).own = own ∙ ap (λ (n : ℕ). (p.own + n) % 2 ^ 32) same in (
       said_once voice rest taken,
       (λ i. record { page = page i; side = (side ∙ (λ j. strays_along old.side (say_events (role j) (sym orders j) p.own taken (take (same j) (left_is j)) (index j)))) i }),

@@ -9,17 +9,17 @@ use Rattle.std.proofs.lemmas.List.Elements.{Contains-append_cases}
 use Rattle.std.specs.List.{flat_map}
 use Rattle.std.proofs.lemmas.Grind.{flat_map-append}
 use Rattle.std.proofs.lemmas.List.{append-nil}
-use Rattle.list_laws.proofs.Tests.{decimal-numerals}
+use Rattle.list_laws.proofs.Tests.{decimal_numerals}
 use Rattle.task_duties.specs.Places.{numbers}
-use Rattle.task_duties.proofs.Places.{numbers-more}
+use Rattle.task_duties.proofs.Places.{numbers_more}
 
 -- one text more after the others
-pub flat_map-numbers : (f : ℕ → List ℕ) (before : List ℕ) (count : ℕ) → (before ++ flat_map f (numbers 1 1 count)) ++ f (count + 1) ≡ before ++ flat_map f (numbers 1 1 (suc count))
-flat_map-numbers f before count =
+pub flat_map_numbers : (f : ℕ → List ℕ) (before : List ℕ) (count : ℕ) → (before ++ flat_map f (numbers 1 1 count)) ++ f (count + 1) ≡ before ++ flat_map f (numbers 1 1 (suc count))
+flat_map_numbers f before count =
     append_assoc before (flat_map f (numbers 1 1 count)) (f (count + 1))
     ∙ ap (λ (more : List ℕ). before ++ more)
     (ap (λ (last : List ℕ). flat_map f (numbers 1 1 count) ++ last) (ap f (omega arith) ∙ sym (append-nil (f (1 + count))))
-    ∙ sym (flat_map-append f (numbers 1 1 count) ((1 + count) ∷ [])) ∙ ap (λ (ns : List ℕ). flat_map f ns) (sym (numbers-more 1 count)))
+    ∙ sym (flat_map-append f (numbers 1 1 count) ((1 + count) ∷ [])) ∙ ap (λ (ns : List ℕ). flat_map f ns) (sym (numbers_more 1 count)))
 
 -- ---- idents
 
@@ -40,4 +40,4 @@ no_nul_letter (suc zero, within, is) = cc
 no_nul_letter (suc (suc k), within, is) = omega arith
 
 pub no_nul_ident : (number : ℕ) → number < 2 ^ 32 → ¬ Contains (codes "h-" ++ decimal number) 0
-no_nul_ident number small has = ⊎_elim no_nul_letter (no_nul_digit (decimal number) (digits_decimal decimal-numerals number (omega (arith, small)))) (Contains-append_cases (codes "h-") (decimal number) 0 has)
+no_nul_ident number small has = ⊎_elim no_nul_letter (no_nul_digit (decimal number) (digits_decimal decimal_numerals number (omega (arith, small)))) (Contains-append_cases (codes "h-") (decimal number) 0 has)

@@ -18,7 +18,7 @@ use Rattle.task_duties.specs.Hostile.Given.{HostilePlan}
 use Rattle.ring_words.specs.declared.page.Role.TheVariants.{Server}
 use Rattle.task_duties.specs.Hostile.Stores.{role_at, orders_at}
 use Rattle.task_duties.specs.Hostile.Trail.{first_voice}
-use Rattle.task_duties.proofs.Places.{no-control}
+use Rattle.task_duties.proofs.Places.{no_control}
 use Rattle.hostile_task.specs.declared.domain.HostileDomain.{HostileDomain}
 use Rattle.hostile_task.specs.declared.page.TurnedPage.{TurnedPage}
 use Rattle.hostile_task.specs.declared.pages.Pages.{Pages}
@@ -132,7 +132,7 @@ start_way domain e ends ps end value own spelled control payload control_fits fi
       nothing_said = λ _. refl;
       control = subst IsControl (sym control.place_is) tt;
       payload = payloads ends ps.payload.items payload;
-      apart = subst (λ (places : List PagePlace). AreApart places) (sym (start_places domain e ends ps control payload)) (no-control domain.number ends, apart);
+      apart = subst (λ (places : List PagePlace). AreApart places) (sym (start_places domain e ends ps control payload)) (no_control domain.number ends, apart);
       so_far = (start_control domain plan e ps.control end value own refl refl control control_fits same side index, pages_so_far domain plan own ends ps.payload.items refl refl payload fits);
     }
 

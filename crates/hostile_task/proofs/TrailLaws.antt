@@ -45,10 +45,10 @@ pub all_acts : (plan : HostilePlan) (place : PagePlace) (acts : List Act) (v aft
 all_acts plan place [] v after events done = done.0
 all_acts plan place (act ∷ acts) v after events done = (done.0, done.1, done.2, done.3, done.4, all_acts plan place acts done.2 after done.1 done.5)
 
-take-get : (acts : List Act) (n : ℕ) (act : Act) → slice_get acts n ≡ Some act → take (suc n) acts ≡ take n acts ++ act ∷ []
-take-get [] n act is = cc
-take-get (a ∷ acts) zero act is = let same : a ≡ act = cc in ap (λ (b : Act). b ∷ []) same
-take-get (a ∷ acts) (suc n) act is = ap (λ (others : List Act). a ∷ others) (take-get acts n act is)
+take_get : (acts : List Act) (n : ℕ) (act : Act) → slice_get acts n ≡ Some act → take (suc n) acts ≡ take n acts ++ act ∷ []
+take_get [] n act is = cc
+take_get (a ∷ acts) zero act is = let same : a ≡ act = cc in ap (λ (b : Act). b ∷ []) same
+take_get (a ∷ acts) (suc n) act is = ap (λ (others : List Act). a ∷ others) (take_get acts n act is)
 
 -- an act that has not begun
 pub begins : (words : Option (List ℕ)) (v : Voice) (p : Progress) → p.own ≡ v.own → p.turns ≡ 0 → p.said ≡ 0 → IsPart words v p []
@@ -69,7 +69,7 @@ control_done plan place act p next trail now part t at acts is one turns said = 
   orders = t.orders;
   acts =
       subst (λ (some : List Act). ActsDone plan place some (first_voice plan t.value) (voice_at t.voice next) (t.done ++ part))
-      (sym (ap (λ (n : ℕ). take n plan.acts) (one ∙ add-one p.acts) ∙ take-get plan.acts p.acts act at))
+      (sym (ap (λ (n : ℕ). take n plan.acts) (one ∙ add-one p.acts) ∙ take_get plan.acts p.acts act at))
       (acts_push plan place (take p.acts plan.acts) act (first_voice plan t.value) t.voice (voice_at t.voice next) t.done part t.acts acts);
   under_way = begins (words_at plan next.acts) (voice_at t.voice next) next refl turns said;
   trail_is = is ∙ ap (λ (events : List PastEvent). loaded (prod_word (written_ring Server)) t.value ∷ events) (sym (append-nil (t.done ++ part)));
@@ -149,7 +149,7 @@ payload_stores plan from to port act p next trail is at one =
     ap (λ (events : List PastEvent). events ++ stores act) is
     ∙ ap (λ (events : List PastEvent). flat_map stores (take p.acts plan.acts) ++ events) (sym (append-nil (stores act)))
     ∙ sym (flat_map-append stores (take p.acts plan.acts) (act ∷ []))
-    ∙ ap (λ (some : List Act). flat_map stores some) (sym (ap (λ (n : ℕ). take n plan.acts) (one ∙ add-one p.acts) ∙ take-get plan.acts p.acts act at))
+    ∙ ap (λ (some : List Act). flat_map stores some) (sym (ap (λ (n : ℕ). take n plan.acts) (one ∙ add-one p.acts) ∙ take_get plan.acts p.acts act at))
 
 -- the trail of a page after some events
 pub page_with : (plan : HostilePlan) (p next : Progress) (page : TurnedPage) (events : List PastEvent) → IsPageSoFar plan p page → IsTrailSoFar plan page.place next (page.end.side.trail ++ events)
@@ -175,15 +175,15 @@ page_stores plan act p next page so_far at none one turns said own =
     by_place (Payload from to port) trail is = payload_stores plan from to port act p next trail is at one
 
 -- an act that sends something stores nothing
-stores-words : (plan : HostilePlan) (place : PagePlace) (act : Act) (bytes : List ℕ) → words_of act ≡ Some bytes → stores_of plan place act ≡ []
-stores-words plan place Hello bytes is = refl
-stores-words plan place (Say said) bytes is = refl
-stores-words plan place (Trigger to service count) bytes is = refl
-stores-words plan place (Terminate domain port) bytes is = refl
-stores-words plan place (Poke page word value) bytes is = cc
-stores-words plan place (Scribble seed count) bytes is = cc
-stores-words plan place Signal bytes is = cc
-stores-words plan place (Rest turns) bytes is = cc
+stores_words : (plan : HostilePlan) (place : PagePlace) (act : Act) (bytes : List ℕ) → words_of act ≡ Some bytes → stores_of plan place act ≡ []
+stores_words plan place Hello bytes is = refl
+stores_words plan place (Say said) bytes is = refl
+stores_words plan place (Trigger to service count) bytes is = refl
+stores_words plan place (Terminate domain port) bytes is = refl
+stores_words plan place (Poke page word value) bytes is = cc
+stores_words plan place (Scribble seed count) bytes is = cc
+stores_words plan place Signal bytes is = cc
+stores_words plan place (Rest turns) bytes is = cc
 
 -- a data page while the domain sends something, or rests
 pub payload_stays : (plan : HostilePlan) (p next : Progress) (page : TurnedPage) → IsPayload page.place → IsPageSoFar plan p page → next.acts ≡ p.acts → IsPageSoFar plan next page
@@ -200,7 +200,7 @@ payload_passes plan act bytes p next page payload so_far at words one =
   where
     by_place : (place : PagePlace) → IsPayload place → (trail : List PastEvent) → IsTrailSoFar plan place p trail → IsTrailSoFar plan place next (trail ++ [])
     by_place (Control d) never trail is = absurd never
-    by_place (Payload from to port) tells trail is = subst (λ (events : List PastEvent). IsTrailSoFar plan (Payload from to port) next (trail ++ events)) (stores-words plan (Payload from to port) act bytes words) (payload_stores plan from to port act p next trail is at one)
+    by_place (Payload from to port) tells trail is = subst (λ (events : List PastEvent). IsTrailSoFar plan (Payload from to port) next (trail ++ events)) (stores_words plan (Payload from to port) act bytes words) (payload_stores plan from to port act p next trail is at one)
 
 -- a page while the domain rests
 pub page_rests : (plan : HostilePlan) (act : Act) (p next : Progress) (page : TurnedPage) → IsPageSoFar plan p page → slice_get plan.acts p.acts ≡ Some act → words_of act ≡ None → next.acts ≡ p.acts → next.own ≡ p.own → IsPageSoFar plan next page

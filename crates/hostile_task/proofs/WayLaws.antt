@@ -1,7 +1,7 @@
 -- A turn of an act keeps what is known of all pages.
 use Rattle.std.proofs.Common.{◌≡◌, ℕ, ◌+◌, ◌<◌, Bool, true, false, List, [], ◌∷◌, ◌++◌, Option, Some, None, length, suc, zero, slice_get, slice_index_or, refl, sym, subst, ap, ◌∙◌, arith}
 use Rattle.std.specs.List.{AllByRecursion as Each}
-use Rattle.list_laws.proofs.Each.{each-mapped, each-weaker, each-with}
+use Rattle.list_laws.proofs.Each.{each_mapped, each_weaker, each_with}
 use Rattle.vchan_protocol.specs.declared.op.PastEvent.{PastEvent}
 use Rattle.vchan_rule.specs.Seated.{SeatedSide}
 use Rattle.scenario_file.specs.declared.acts.Act.{Act}
@@ -47,11 +47,11 @@ way_stores domain act old new p next spelled way at within none after is =
       begun = not_begun (slice_get domain.acts next.acts) next spelled turns;
       nothing_said = λ _. said;
       control = subst (λ (q : TurnedPage). IsControl q.place) (sym after.control) way.control;
-      payload = subst (λ (qs : List TurnedPage). Each (λ q. IsPayload q.place) qs) (sym after.payload) (each-mapped (λ q. IsPayload q.place) (λ q. IsPayload q.place) page old.payload.items (λ q h. h) way.payload);
+      payload = subst (λ (qs : List TurnedPage). Each (λ q. IsPayload q.place) qs) (sym after.payload) (each_mapped (λ q. IsPayload q.place) (λ q. IsPayload q.place) page old.payload.items (λ q h. h) way.payload);
       apart = subst (λ (ps : List PagePlace). AreApart ps) (sym places) way.apart;
       so_far = subst (λ (ps : List PagePlace). EachPage (IsPageSoFar (plan_of domain ps) next) new) (sym places) (
         subst (λ (q : TurnedPage). IsPageSoFar plan next q) (sym after.control) (keeps old.control way.so_far.0),
-        subst (λ (qs : List TurnedPage). Each (IsPageSoFar plan next) qs) (sym after.payload) (each-mapped (IsPageSoFar plan p) (IsPageSoFar plan next) page old.payload.items keeps way.so_far.1),
+        subst (λ (qs : List TurnedPage). Each (IsPageSoFar plan next) qs) (sym after.payload) (each_mapped (IsPageSoFar plan p) (IsPageSoFar plan next) page old.payload.items keeps way.so_far.1),
       );
     }
 
@@ -73,7 +73,7 @@ way_rests domain turns pages p next false spelled way at within goes_on is =
       control = way.control;
       payload = way.payload;
       apart = way.apart;
-      so_far = (keeps pages.control way.so_far.0, each-weaker (IsPageSoFar plan p) (IsPageSoFar plan next) keeps pages.payload.items way.so_far.1);
+      so_far = (keeps pages.control way.so_far.0, each_weaker (IsPageSoFar plan p) (IsPageSoFar plan next) keeps pages.payload.items way.so_far.1);
     }
 
 -- ---- saying
@@ -90,15 +90,15 @@ control_trail_is : (plan : HostilePlan) (p : Progress) (place : PagePlace) (trai
 control_trail_is plan p (Control d) trail tells is = is
 control_trail_is plan p (Payload from to port) trail never is = absurd never
 
-most_turns-words : (act : Act) (bytes : List ℕ) → words_of act ≡ Some bytes → most_turns act ≡ 1024
-most_turns-words Hello bytes is = refl
-most_turns-words (Say said) bytes is = refl
-most_turns-words (Trigger to service count) bytes is = refl
-most_turns-words (Terminate domain port) bytes is = refl
-most_turns-words (Poke page word value) bytes is = cc
-most_turns-words (Scribble seed count) bytes is = cc
-most_turns-words Signal bytes is = cc
-most_turns-words (Rest turns) bytes is = cc
+most_turns_words : (act : Act) (bytes : List ℕ) → words_of act ≡ Some bytes → most_turns act ≡ 1024
+most_turns_words Hello bytes is = refl
+most_turns_words (Say said) bytes is = refl
+most_turns_words (Trigger to service count) bytes is = refl
+most_turns_words (Terminate domain port) bytes is = refl
+most_turns_words (Poke page word value) bytes is = cc
+most_turns_words (Scribble seed count) bytes is = cc
+most_turns_words Signal bytes is = cc
+most_turns_words (Rest turns) bytes is = cc
 
 -- the pages once the end of the control page is this one
 abbrev pub with_control : Pages → SeatedSide → Pages
@@ -147,7 +147,7 @@ way_says domain act bytes pages end p mid over before spelled way at within word
     keeps : (next : Progress) → IsControlTrail plan pages.control.place next trail → ((q : TurnedPage) → IsPayload q.place → IsPageSoFar plan p q → IsPageSoFar plan next q) → EachPage (IsPageSoFar plan next) (with_control pages end)
     keeps next is others = (
       control_after plan p next pages.control end turn.more way.control way.so_far.0 turn.end_is is,
-      each-with (λ q. IsPayload q.place) (IsPageSoFar plan p) (IsPageSoFar plan next) pages.payload.items others way.payload way.so_far.1,
+      each_with (λ q. IsPayload q.place) (IsPageSoFar plan p) (IsPageSoFar plan next) pages.payload.items others way.payload way.so_far.1,
     )
 
     by_over : (b : Bool) → over ≡ b → IsUnderWay domain (with_control pages end) (after_turn b mid) spelled
@@ -172,7 +172,7 @@ way_says domain act bytes pages end p mid over before spelled way at within word
         record {
           acts = omega (arith, acts, within);
           begun = subst (λ (o : Option Act). HasBegun o mid spelled) (sym (ap (λ (n : ℕ). slice_get domain.acts n) acts ∙ at))
-              (λ some. (omega (arith, (turns is).1, most_turns-words act bytes words), ready));
+              (λ some. (omega (arith, (turns is).1, most_turns_words act bytes words), ready));
           nothing_said = λ none. absurd (omega (arith, none, (turns is).0));
           control = way.control;
           payload = way.payload;
@@ -185,14 +185,14 @@ way_says domain act bytes pages end p mid over before spelled way at within word
 
 -- ---- the act under way
 
-get-at : (acts : List Act) (n : ℕ) (d : Act) → n < length acts → slice_get acts n ≡ Some (slice_index_or acts n d)
-get-at [] n d within = absurd (omega arith)
-get-at (act ∷ acts) zero d within = refl
-get-at (act ∷ acts) (suc n) d within = get-at acts n d (omega arith)
+get_at : (acts : List Act) (n : ℕ) (d : Act) → n < length acts → slice_get acts n ≡ Some (slice_index_or acts n d)
+get_at [] n d within = absurd (omega arith)
+get_at (act ∷ acts) zero d within = refl
+get_at (act ∷ acts) (suc n) d within = get_at acts n d (omega arith)
 
 pub act_at : (acts list : List Act) (n : ℕ) (result act : Act) → list ≡ acts → n < length acts → result ≡ slice_index_or list n result → result ≡ act → slice_get acts n ≡ Some act
 act_at acts list n result act same within is act_is =
-    get-at acts n result within ∙ ap (λ (a : Act). Some a) (ap (λ (others : List Act). slice_index_or others n result) (sym same) ∙ sym is ∙ act_is)
+    get_at acts n result within ∙ ap (λ (a : Act). Some a) (ap (λ (others : List Act). slice_index_or others n result) (sym same) ∙ sym is ∙ act_is)
 
 -- an act that is none of these sends something
 pub says_some : (act : Act) → ((page : ActPage) (word : WordName) (value : ℕ) → act ≡ Poke page word value → ⊥) → ((seed count : ℕ) → act ≡ Scribble seed count → ⊥) → (act ≡ Signal → ⊥) → ((turns : ℕ) → act ≡ Rest turns → ⊥)

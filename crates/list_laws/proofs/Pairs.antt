@@ -3,17 +3,17 @@ use Rattle.std.proofs.Common.{List, [], ◌∷◌, ◌++◌, ◌≡◌, refl, ap
 use Rattle.std.specs.List.{AllZip as EachPair}
 
 -- two lists in step, with one element more in each
-pub pairs-push : {A B : Type 0} (R : A → B → Type 0) (xs : List A) (ys : List B) (x : A) (y : B) → EachPair R xs ys → R x y → EachPair R (xs ++ x ∷ []) (ys ++ y ∷ [])
-pairs-push R [] [] x y all one = (one, tt)
-pairs-push R [] (b ∷ bs) x y all one = absurd all
-pairs-push R (a ∷ others) [] x y all one = absurd all
-pairs-push R (a ∷ others) (b ∷ bs) x y all one = (all.0, pairs-push R others bs x y all.1 one)
+pub pairs_push : {A B : Type 0} (R : A → B → Type 0) (xs : List A) (ys : List B) (x : A) (y : B) → EachPair R xs ys → R x y → EachPair R (xs ++ x ∷ []) (ys ++ y ∷ [])
+pairs_push R [] [] x y all one = (one, tt)
+pairs_push R [] (b ∷ bs) x y all one = absurd all
+pairs_push R (a ∷ others) [] x y all one = absurd all
+pairs_push R (a ∷ others) (b ∷ bs) x y all one = (all.0, pairs_push R others bs x y all.1 one)
 
-pub pairs-append : {A B : Type 0} (R : A → B → Type 0) (xs more : List A) (ys some : List B) → EachPair R xs ys → EachPair R more some → EachPair R (xs ++ more) (ys ++ some)
-pairs-append R [] more [] some e f = f
-pairs-append R (x ∷ xs) more (y ∷ ys) some e f = (e.0, pairs-append R xs more ys some e.1 f)
-pairs-append R [] more (y ∷ ys) some e f = absurd e
-pairs-append R (x ∷ xs) more [] some e f = absurd e
+pub pairs_append : {A B : Type 0} (R : A → B → Type 0) (xs more : List A) (ys some : List B) → EachPair R xs ys → EachPair R more some → EachPair R (xs ++ more) (ys ++ some)
+pairs_append R [] more [] some e f = f
+pairs_append R (x ∷ xs) more (y ∷ ys) some e f = (e.0, pairs_append R xs more ys some e.1 f)
+pairs_append R [] more (y ∷ ys) some e f = absurd e
+pairs_append R (x ∷ xs) more [] some e f = absurd e
 
 -- the last pair of two lists
 pub record LastPair {A B : Type 0} (R : A → B → Type 0) (xs : List A) (x : A) (ys : List B) : Type 0 where
@@ -23,12 +23,12 @@ pub record LastPair {A B : Type 0} (R : A → B → Type 0) (xs : List A) (x : A
   pub pairs : EachPair R xs rest
   pub pair : R x last
 
-pub last-pair : {A B : Type 0} (R : A → B → Type 0) (xs : List A) (x : A) (ys : List B) → EachPair R (xs ++ x ∷ []) ys → LastPair R xs x ys
-last-pair R [] x [] e = absurd e
-last-pair R [] x (y ∷ []) e = record { rest = []; last = y; is = refl; pairs = tt; pair = e.0 }
-last-pair R [] x (y ∷ z ∷ ys) e = absurd e.1
-last-pair R (a ∷ xs) x [] e = absurd e
-last-pair R (a ∷ xs) x (y ∷ ys) e = up (last-pair R xs x ys e.1)
+pub last_pair : {A B : Type 0} (R : A → B → Type 0) (xs : List A) (x : A) (ys : List B) → EachPair R (xs ++ x ∷ []) ys → LastPair R xs x ys
+last_pair R [] x [] e = absurd e
+last_pair R [] x (y ∷ []) e = record { rest = []; last = y; is = refl; pairs = tt; pair = e.0 }
+last_pair R [] x (y ∷ z ∷ ys) e = absurd e.1
+last_pair R (a ∷ xs) x [] e = absurd e
+last_pair R (a ∷ xs) x (y ∷ ys) e = up (last_pair R xs x ys e.1)
   where
     up : LastPair R xs x ys → LastPair R (a ∷ xs) x (y ∷ ys)
     up l = record { rest = y ∷ l.rest; last = l.last; is = ap (λ m. y ∷ m) l.is; pairs = (e.0, l.pairs); pair = l.pair }

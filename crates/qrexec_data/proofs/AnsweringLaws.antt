@@ -6,10 +6,10 @@ use Rattle.service_gate.specs.Triple.{Triple, Feeds}
 use Rattle.qrexec_data.specs.Answering.{AnsweringState, FeedsOn}
 
 -- what a service was fed, if a part of its outputs stands in messages
-pub fed-on : {S : Type 0} (owes : S → List ℕ → Triple) (bytes : List ℕ) (old inside : AnsweringState S) (service' : S) (out out' err err' : List ℕ) (ol el : ℕ)
+pub fed_on : {S : Type 0} (owes : S → List ℕ → Triple) (bytes : List ℕ) (old inside : AnsweringState S) (service' : S) (out out' err err' : List ℕ) (ol el : ℕ)
     → inside ≡ old → inside.out ≡ drop ol out → inside.err ≡ drop el err → ol ≤ length out → el ≤ length err → Feeds (owes inside.service) (owes service') bytes out out' err err'
     → FeedsOn owes bytes old (record inside { service = service'; out = drop ol out'; err = drop el err' })
-fed-on {S} owes bytes old inside service' out out' err err' ol el same out_is err_is out_within err_within f =
+fed_on {S} owes bytes old inside service' out out' err err' ol el same out_is err_is out_within err_within f =
     let P : AnsweringState S → Type 0 = λ x. FeedsOn owes bytes x (record inside { service = service'; out = drop ol out'; err = drop el err' }) in
     subst P same (record {
       feeds = record {
@@ -22,10 +22,10 @@ fed-on {S} owes bytes old inside service' out out' err err' ol el same out_is er
       rest = refl;
     })
 
-pub some-if : {A : Type 0} (o : Option A) → is_some o ≡ true → IsSome o
-some-if None is = cc
-some-if (Some x) is = refl
+pub some_if : {A : Type 0} (o : Option A) → is_some o ≡ true → IsSome o
+some_if None is = cc
+some_if (Some x) is = refl
 
-pub none-if : {A : Type 0} (o : Option A) → is_some o ≡ false → o ≡ None
-none-if None is = refl
-none-if (Some x) is = cc
+pub none_if : {A : Type 0} (o : Option A) → is_some o ≡ false → o ≡ None
+none_if None is = refl
+none_if (Some x) is = cc

@@ -3,8 +3,8 @@ use Rattle.std.proofs.Common.{◌≡◌, ℕ, ◌+◌, ◌-◌, ◌<◌, ◌≤�
 use Rattle.std.proofs.lemmas.List.{append-nil, length-drop, length-take-le}
 use Rattle.std.proofs.lemmas.Bool.Decides.{nat_tests}
 use Rattle.std.specs.Prelude.{true, false, Bool, min, nat_lt, ◌==◌, is_none, is_some, not, if◌then◌else◌, IsSome, ◌↔◌}
-use Rattle.list_laws.proofs.Tests.{no-length, has-length, not-empty}
-use Rattle.list_laws.proofs.Results.{none-is}
+use Rattle.list_laws.proofs.Tests.{no_length, has_length, not_empty_lem}
+use Rattle.list_laws.proofs.Results.{none_is}
 use Rattle.qrexec_frame.specs.declared.channel.Channel.TheVariants.{Data}
 use Rattle.qrexec_frame.specs.declared.message.Message.{Message}
 use Rattle.qrexec_frame.specs.declared.message.Message.TheVariants.{Hello, Stdin}
@@ -21,11 +21,11 @@ use Rattle.qrexec_data.specs.Reading.{InboxState, unread, read_messages}
 use Rattle.qrexec_data.specs.Replies.{RepliesState, after_message, faulted, KnowsReplies}
 use Rattle.qrexec_data.specs.Requests.{RequestsState, next_len, laid_next, laid_on, end_if, SendsInput, SendsRequests}
 use Rattle.qrexec_data.specs.CallerSide.{CallerState, ReadsReply, NothingLeft, OneMessage, OneFault, IsReading, HasRead, CallerStandsFor, LendsRequests, IsStill}
-use Rattle.qrexec_data.proofs.SpelledLaws.{spelled, spelled-behind, each-one, take-more, written-some}
-use Rattle.qrexec_data.proofs.ReadingLaws.{ReadsNext, reading-short, reading-bad, reading-next}
-use Rattle.qrexec_data.proofs.HearingLaws.{left-over, seen-frame, joined-piece}
-use Rattle.qrexec_data.proofs.RepliesLaws.{if-true, if-false, Heard, GoesOn, Decides, placed_at, hears}
-use Rattle.qrexec_data.proofs.MaySendLaws.{some-limit}
+use Rattle.qrexec_data.proofs.SpelledLaws.{spelled, spelled_behind, each_one, take_more, written_some}
+use Rattle.qrexec_data.proofs.ReadingLaws.{ReadsNext, reading_short, reading_bad, reading_next}
+use Rattle.qrexec_data.proofs.HearingLaws.{left_over, seen_frame, joined_piece}
+use Rattle.qrexec_data.proofs.RepliesLaws.{if_true, if_false, Heard, GoesOn, Decides, placed_at, hears}
+use Rattle.qrexec_data.proofs.MaySendLaws.{some_limit}
 
 -- ---- reading
 
@@ -33,25 +33,25 @@ abbrev KnowsOf : RepliesState → Reading Message Fault → Type 0
 KnowsOf r x = KnowsReplies r x.placed (sees_all caller_use x.placed x.ending)
 
 -- nothing whole is left
-read-all : (c : CallerState) → IsReading c → front Data (unread c.inbox) ≡ Short → HasRead c
-read-all c h short =
+read_all : (c : CallerState) → IsReading c → front Data (unread c.inbox) ≡ Short → HasRead c
+read_all c h short =
     let S : Seen → Type 0 = λ s. KnowsReplies c.replies (read_messages c.inbox) s in
     let P : Reading Message Fault → Type 0 = KnowsOf c.replies in
     record {
-      knows = subst P (sym (reading-short c.inbox h.at short)) (subst S (left-over caller_use (read_messages c.inbox) 0 (length (unread c.inbox))) h.knows);
+      knows = subst P (sym (reading_short c.inbox h.at short)) (subst S (left_over caller_use (read_messages c.inbox) 0 (length (unread c.inbox))) h.knows);
       goes_on = λ none. h;
     }
 
 -- a fault of the frame
-read-fault : (c : CallerState) → IsReading c → (g : Fault) → front Data (unread c.inbox) ≡ Bad g
+read_fault : (c : CallerState) → IsReading c → (g : Fault) → front Data (unread c.inbox) ≡ Bad g
     → HasRead (record c { replies = faulted (fault.Frame (fault_at c.inbox.read g)) c.replies })
-read-fault c h g bad =
+read_fault c h g bad =
     let P : Reading Message Fault → Type 0 = KnowsOf (faulted (fault.Frame (fault_at c.inbox.read g)) c.replies) in
     let undecided : (sees_all caller_use (read_messages c.inbox) (Rest 0)).verdict ≡ Undecided = rw h.undecided at h.knows.outcome in
-    let seen = seen-frame caller_use (read_messages c.inbox) undecided c.inbox.read g in
+    let seen = seen_frame caller_use (read_messages c.inbox) undecided c.inbox.read g in
     let S : Seen → Type 0 = λ s. KnowsReplies (faulted (fault.Frame (fault_at c.inbox.read g)) c.replies) (read_messages c.inbox) s in
     record {
-      knows = subst P (sym (reading-bad c.inbox h.at g bad)) (subst S (sym seen) (record {
+      knows = subst P (sym (reading_bad c.inbox h.at g bad)) (subst S (sym seen) (record {
         outcome = refl;
         stdout = h.knows.stdout;
         stderr = h.knows.stderr;
@@ -63,16 +63,16 @@ read-fault c h g bad =
     }
 
 -- one message more
-read-message : (c : CallerState) → IsReading c → (m : Message) (n : ℕ) → c.inbox.read < 2 ^ 64 → front Data (unread c.inbox) ≡ Whole m n → (r : RepliesState) → r ≡ after_message m c.inbox.read c.replies
+read_message : (c : CallerState) → IsReading c → (m : Message) (n : ℕ) → c.inbox.read < 2 ^ 64 → front Data (unread c.inbox) ≡ Whole m n → (r : RepliesState) → r ≡ after_message m c.inbox.read c.replies
     → (new : CallerState) → new ≡ record c { inbox = record c.inbox { read = c.inbox.read + n }; replies = r }
     → (r.outcome ≡ None → IsReading new) × ((o : Outcome) → r.outcome ≡ Some o → HasRead new)
-read-message c h m n small whole r is new new_is = by_heard (subst H (sym is) (hears c.replies (read_messages c.inbox) m c.inbox.read small h.knows h.undecided))
+read_message c h m n small whole r is new new_is = by_heard (subst H (sym is) (hears c.replies (read_messages c.inbox) m c.inbox.read small h.knows h.undecided))
   where
     H : RepliesState → Type 0
     H x = Heard x (read_messages c.inbox) (placed_at c.inbox.read m)
 
     next : ReadsNext c.inbox m n
-    next = reading-next c.inbox h.at m n whole
+    next = reading_next c.inbox h.at m n whole
 
     after : CallerState
     after = record c { inbox = record c.inbox { read = c.inbox.read + n }; replies = r }
@@ -94,14 +94,14 @@ read-message c h m n small whole r is new new_is = by_heard (subst H (sym is) (h
           λ _ _. record { knows = subst P (sym next.all) (knows next.rest next.ending); goes_on = λ none. let no : None ≡ Some o = sym none ∙ some in cc },
         )
 
-pub none-or-some : (o : Option Outcome) → (o ≡ None) ⊎ ((x : Outcome) × (o ≡ Some x))
-none-or-some None = inl refl
-none-or-some (Some x) = inr (x, refl)
+pub none_or_some : (o : Option Outcome) → (o ≡ None) ⊎ ((x : Outcome) × (o ≡ Some x))
+none_or_some None = inl refl
+none_or_some (Some x) = inr (x, refl)
 
-pub reads-on : (old new : CallerState) (more : Bool) → old.inbox.read < 2 ^ 64 → IsReading old → ReadsReply old new more → (more ≡ true → IsReading new) × (more ≡ false → HasRead new)
-reads-on old new more small h (NothingLeft short is stops) =
-    let P : CallerState → Type 0 = λ c. HasRead c in (λ yes. cc, λ _. subst P (sym is) (read-all old h short))
-reads-on old new more small h (OneMessage m n whole is ends) = by_outcome (none-or-some new.replies.outcome)
+pub reads_on : (old new : CallerState) (more : Bool) → old.inbox.read < 2 ^ 64 → IsReading old → ReadsReply old new more → (more ≡ true → IsReading new) × (more ≡ false → HasRead new)
+reads_on old new more small h (NothingLeft short is stops) =
+    let P : CallerState → Type 0 = λ c. HasRead c in (λ yes. cc, λ _. subst P (sym is) (read_all old h short))
+reads_on old new more small h (OneMessage m n whole is ends) = by_outcome (none_or_some new.replies.outcome)
   where
     replies : new.replies ≡ after_message m old.inbox.read old.replies
     replies = ap (λ c. c.replies) is
@@ -113,26 +113,26 @@ reads-on old new more small h (OneMessage m n whole is ends) = by_outcome (none-
         later r = record old { inbox = record old.inbox { read = old.inbox.read + n }; replies = r }
 
     one : (new.replies.outcome ≡ None → IsReading new) × ((o : Outcome) → new.replies.outcome ≡ Some o → HasRead new)
-    one = read-message old h m n small whole new.replies replies new parts
+    one = read_message old h m n small whole new.replies replies new parts
 
     by_outcome : ((new.replies.outcome ≡ None) ⊎ ((x : Outcome) × (new.replies.outcome ≡ Some x))) → (more ≡ true → IsReading new) × (more ≡ false → HasRead new)
     by_outcome (inl none) = let yes : more ≡ true = ends ∙ rw none refl in (λ _. one.0 none, λ no. cc)
     by_outcome (inr some) = let no : more ≡ false = ends ∙ rw some.1 refl in (λ yes. cc, λ _. one.1 some.0 some.1)
-reads-on old new more small h (OneFault g bad is stops) =
-    let P : CallerState → Type 0 = λ c. HasRead c in (λ yes. cc, λ _. subst P (sym is) (read-fault old h g bad))
+reads_on old new more small h (OneFault g bad is stops) =
+    let P : CallerState → Type 0 = λ c. HasRead c in (λ yes. cc, λ _. subst P (sym is) (read_fault old h g bad))
 
 -- the steps of `read_one`
-pub one-message : (old : CallerState) (inbox : InboxState) (replies : RepliesState) (requests : RequestsState) (m : Message) (n : ℕ) (inbox' : InboxState) (replies' : RepliesState) (more : Bool)
+pub one_message : (old : CallerState) (inbox : InboxState) (replies : RepliesState) (requests : RequestsState) (m : Message) (n : ℕ) (inbox' : InboxState) (replies' : RepliesState) (more : Bool)
     → record { inbox = inbox; replies = replies; requests = requests } ≡ old → front Data (unread inbox) ≡ Whole m n → inbox' ≡ record inbox { read = inbox.read + n }
     → replies' ≡ after_message m inbox.read replies → more ≡ is_none replies'.outcome → ReadsReply old (record { inbox = inbox'; replies = replies'; requests = requests }) more
-one-message old inbox replies requests m n inbox' replies' more is whole passed heard ends =
+one_message old inbox replies requests m n inbox' replies' more is whole passed heard ends =
     let P : CallerState → Type 0 = λ c. ReadsReply c (record { inbox = inbox'; replies = replies'; requests = requests }) more in
     subst P is (OneMessage m n whole (λ i. record { inbox = passed i; replies = heard i; requests = requests }) ends)
 
-pub one-fault : (old : CallerState) (inbox : InboxState) (replies : RepliesState) (requests : RequestsState) (g : Fault) (replies' : RepliesState)
+pub one_fault : (old : CallerState) (inbox : InboxState) (replies : RepliesState) (requests : RequestsState) (g : Fault) (replies' : RepliesState)
     → record { inbox = inbox; replies = replies; requests = requests } ≡ old → front Data (unread inbox) ≡ Bad g
     → replies' ≡ faulted (fault.Frame (fault_at inbox.read g)) replies → ReadsReply old (record { inbox = inbox; replies = replies'; requests = requests }) false
-one-fault old inbox replies requests g replies' is bad failed =
+one_fault old inbox replies requests g replies' is bad failed =
     let P : CallerState → Type 0 = λ c. ReadsReply c (record { inbox = inbox; replies = replies'; requests = requests }) false in
     subst P is (OneFault g bad (λ i. record { inbox = inbox; replies = failed i; requests = requests }) refl)
 
@@ -144,28 +144,28 @@ pub record KeepsOn (start now : CallerState) : Type 0 where
   pub version : (v : ℕ) → start.replies.version ≡ Some v → now.replies.version ≡ Some v
   pub reads : IsReading start → IsReading now
 
-pub keeps-on : (start old new : CallerState) (more : Bool) → KeepsOn start old → new.inbox.got ≡ old.inbox.got → new.requests ≡ old.requests → new.replies.own ≡ old.replies.own
+pub keeps_on : (start old new : CallerState) (more : Bool) → KeepsOn start old → new.inbox.got ≡ old.inbox.got → new.requests ≡ old.requests → new.replies.own ≡ old.replies.own
     → ((v : ℕ) → old.replies.version ≡ Some v → new.replies.version ≡ Some v) → old.inbox.read < 2 ^ 64 → ReadsReply old new more → more ≡ true → KeepsOn start new
-keeps-on start old new more k got requests own version small step goes = record {
+keeps_on start old new more k got requests own version small step goes = record {
   got = got ∙ k.got;
   requests = requests ∙ k.requests;
   own = own ∙ k.own;
   version = λ v is. version v (k.version v is);
-  reads = λ h. (reads-on old new more small (k.reads h) step).0 goes;
+  reads = λ h. (reads_on old new more small (k.reads h) step).0 goes;
 }
 
-pub none-of : (b : Bool) (o : Option Outcome) → is_some o ≡ not b → b ≡ is_none o
-none-of true None is = refl
-none-of true (Some o) is = cc
-none-of false None is = cc
-none-of false (Some o) is = refl
+pub none_of : (b : Bool) (o : Option Outcome) → is_some o ≡ not b → b ≡ is_none o
+none_of true None is = refl
+none_of true (Some o) is = cc
+none_of false None is = cc
+none_of false (Some o) is = refl
 
 -- ---- sending
 
 -- the input goes on
-sends-piece : (own limit : ℕ) (r : RequestsState) (sent : List ℕ) (n : ℕ) → SendsInput own limit r sent → r.closed ≡ false → 0 < n → n ≤ limit → n ≤ length r.input - r.laid
+sends_piece : (own limit : ℕ) (r : RequestsState) (sent : List ℕ) (n : ℕ) → SendsInput own limit r sent → r.closed ≡ false → 0 < n → n ≤ limit → n ≤ length r.input - r.laid
     → SendsInput own limit (record r { laid = r.laid + n; waiting = r.waiting ++ written (Stdin (take n (drop r.laid r.input))) }) sent
-sends-piece own limit r sent n s unclosed some least within =
+sends_piece own limit r sent n s unclosed some least within =
     let p : Piece = record { stream = In; bytes = take n (drop r.laid r.input) } in
     let size : length (take n (drop r.laid r.input)) ≡ n = length-take-le n (drop r.laid r.input) (omega (arith, within, length-drop r.laid r.input)) in
     let before : s.pieces ++ end_if r.closed ≡ s.pieces = rw unclosed (append-nil s.pieces) in
@@ -173,17 +173,17 @@ sends-piece own limit r sent n s unclosed some least within =
     let after : (s.pieces ++ p ∷ []) ++ end_if r.closed ≡ s.pieces ++ p ∷ [] = rw unclosed (append-nil (s.pieces ++ p ∷ [])) in
     record {
       pieces = s.pieces ++ p ∷ [];
-      each = each-one is_input limit s.pieces p s.each ((refl, omega (arith, size, some), omega (arith, size, least)), tt);
-      all = joined-piece In s.pieces p refl ∙ ap (λ x. x ++ take n (drop r.laid r.input)) s.all ∙ take-more r.input r.laid n s.within;
+      each = each_one is_input limit s.pieces p s.each ((refl, omega (arith, size, some), omega (arith, size, least)), tt);
+      all = joined_piece In s.pieces p refl ∙ ap (λ x. x ++ take n (drop r.laid r.input)) s.all ∙ take_more r.input r.laid n s.within;
       within = omega (arith, within, s.within);
-      stream = spelled-behind (written (Hello own)) sent r.waiting s.pieces p stream ∙ ap (λ ps. written (Hello own) ++ spelled ps) (sym after);
+      stream = spelled_behind (written (Hello own)) sent r.waiting s.pieces p stream ∙ ap (λ ps. written (Hello own) ++ spelled ps) (sym after);
       done = λ yes. let no : false ≡ true = sym unclosed ∙ yes in cc;
     }
 
 -- the input's end
-sends-end : (own limit : ℕ) (r : RequestsState) (sent : List ℕ) → SendsInput own limit r sent → r.closed ≡ false → length r.input ≤ r.laid
+sends_end : (own limit : ℕ) (r : RequestsState) (sent : List ℕ) → SendsInput own limit r sent → r.closed ≡ false → length r.input ≤ r.laid
     → SendsInput own limit (record r { closed = true; waiting = r.waiting ++ written (Stdin []) }) sent
-sends-end own limit r sent s unclosed all =
+sends_end own limit r sent s unclosed all =
     let before : s.pieces ++ end_if r.closed ≡ s.pieces = rw unclosed (append-nil s.pieces) in
     let stream : sent ++ r.waiting ≡ written (Hello own) ++ spelled s.pieces = s.stream ∙ ap (λ ps. written (Hello own) ++ spelled ps) before in
     record {
@@ -191,12 +191,12 @@ sends-end own limit r sent s unclosed all =
       each = s.each;
       all = s.all;
       within = s.within;
-      stream = spelled-behind (written (Hello own)) sent r.waiting s.pieces (end_of In) stream;
+      stream = spelled_behind (written (Hello own)) sent r.waiting s.pieces (end_of In) stream;
       done = λ yes. omega (arith, all, s.within);
     }
 
-sends-next : (own version : ℕ) (r : RequestsState) (sent : List ℕ) → 0 < r.chunk → SendsInput own (min r.chunk (most version)) r sent → SendsInput own (min r.chunk (most version)) (laid_next version r) sent
-sends-next own version r sent some s = by_closed r.closed refl
+sends_next : (own version : ℕ) (r : RequestsState) (sent : List ℕ) → 0 < r.chunk → SendsInput own (min r.chunk (most version)) r sent → SendsInput own (min r.chunk (most version)) (laid_next version r) sent
+sends_next own version r sent some s = by_closed r.closed refl
   where
     Is : RequestsState → Type 0
     Is x = SendsInput own (min r.chunk (most version)) x sent
@@ -204,20 +204,20 @@ sends-next own version r sent some s = by_closed r.closed refl
     by_more : r.closed ≡ false → (b : Bool) → nat_lt r.laid (length r.input) ≡ b → Is (laid_next version r)
     by_more unclosed true is =
         let less : r.laid < length r.input = grind (arith, nat_tests, is) in
-        let limit = some-limit r.chunk version some in
-        subst Is (sym (if-false r.closed _ _ unclosed ∙ if-true (nat_lt r.laid (length r.input)) _ _ is))
-        (sends-piece own (min r.chunk (most version)) r sent (next_len version r) s unclosed (omega (arith, limit, less)) (omega arith) (omega arith))
+        let limit = some_limit r.chunk version some in
+        subst Is (sym (if_false r.closed _ _ unclosed ∙ if_true (nat_lt r.laid (length r.input)) _ _ is))
+        (sends_piece own (min r.chunk (most version)) r sent (next_len version r) s unclosed (omega (arith, limit, less)) (omega arith) (omega arith))
     by_more unclosed false is =
         let all : length r.input ≤ r.laid = grind (arith, nat_tests, is) in
-        subst Is (sym (if-false r.closed _ _ unclosed ∙ if-false (nat_lt r.laid (length r.input)) _ _ is)) (sends-end own (min r.chunk (most version)) r sent s unclosed all)
+        subst Is (sym (if_false r.closed _ _ unclosed ∙ if_false (nat_lt r.laid (length r.input)) _ _ is)) (sends_end own (min r.chunk (most version)) r sent s unclosed all)
 
     by_closed : (b : Bool) → r.closed ≡ b → Is (laid_next version r)
-    by_closed true is = subst Is (sym (if-true r.closed _ _ is)) s
+    by_closed true is = subst Is (sym (if_true r.closed _ _ is)) s
     by_closed false is = by_more is (nat_lt r.laid (length r.input)) refl
 
-pub sends-laid : (own : ℕ) (version : Option ℕ) (r : RequestsState) (sent : List ℕ) → 0 < r.chunk → SendsRequests own version r sent → SendsRequests own version (laid_on version r) sent
-sends-laid own None r sent some s = s
-sends-laid own (Some version) r sent some s = by_waiting (length r.waiting == 0) refl
+pub sends_laid : (own : ℕ) (version : Option ℕ) (r : RequestsState) (sent : List ℕ) → 0 < r.chunk → SendsRequests own version r sent → SendsRequests own version (laid_on version r) sent
+sends_laid own None r sent some s = s
+sends_laid own (Some version) r sent some s = by_waiting (length r.waiting == 0) refl
   where
     Is : RequestsState → Type 0
     Is x = SendsInput own (min x.chunk (most version)) x sent
@@ -232,17 +232,17 @@ sends-laid own (Some version) r sent some s = by_waiting (length r.waiting == 0)
 
     by_waiting : (b : Bool) → (length r.waiting == 0) ≡ b → Is (laid_on (Some version) r)
     by_waiting true is =
-        let next : SendsInput own (min (laid_next version r).chunk (most version)) (laid_next version r) sent = rw chunk (sends-next own version r sent some s) in
-        subst Is (sym (if-true (length r.waiting == 0) _ _ is)) next
-    by_waiting false is = subst Is (sym (if-false (length r.waiting == 0) _ _ is)) s
+        let next : SendsInput own (min (laid_next version r).chunk (most version)) (laid_next version r) sent = rw chunk (sends_next own version r sent some s) in
+        subst Is (sym (if_true (length r.waiting == 0) _ _ is)) next
+    by_waiting false is = subst Is (sym (if_false (length r.waiting == 0) _ _ is)) s
 
 -- the bytes that `front` returns
-reads-still : (c : CallerState) (r : RequestsState) → HasRead c → HasRead (record c { requests = r })
-reads-still c r h = record { knows = h.knows; goes_on = λ none. let g = h.goes_on none in record { undecided = g.undecided; at = g.at; knows = g.knows } }
+reads_still : (c : CallerState) (r : RequestsState) → HasRead c → HasRead (record c { requests = r })
+reads_still c r h = record { knows = h.knows; goes_on = λ none. let g = h.goes_on none in record { undecided = g.undecided; at = g.at; knows = g.knows } }
 
-chunk-laid : (version : Option ℕ) (r : RequestsState) → 0 < r.chunk → 0 < (laid_on version r).chunk
-chunk-laid None r some = some
-chunk-laid (Some version) r some = by_tests (length r.waiting == 0) r.closed (nat_lt r.laid (length r.input))
+chunk_laid : (version : Option ℕ) (r : RequestsState) → 0 < r.chunk → 0 < (laid_on version r).chunk
+chunk_laid None r some = some
+chunk_laid (Some version) r some = by_tests (length r.waiting == 0) r.closed (nat_lt r.laid (length r.input))
   where
     by_tests : (w a b : Bool) → 0 < (if w then (if a then r else if b then record r { laid = r.laid + next_len version r; waiting = r.waiting ++ written (Stdin (take (next_len version r) (drop r.laid r.input))) } else record r { closed = true; waiting = r.waiting ++ written (Stdin []) }) else r).chunk
     by_tests true true b = some
@@ -250,11 +250,11 @@ chunk-laid (Some version) r some = by_tests (length r.waiting == 0) r.closed (na
     by_tests true false false = some
     by_tests false a b = some
 
-pub stands-laid : (c : CallerState) (sent : List ℕ) → CallerStandsFor c sent → CallerStandsFor (record c { requests = laid_on c.replies.version c.requests }) sent
-stands-laid c sent s = record {
-  chunk = chunk-laid c.replies.version c.requests s.chunk;
-  read = reads-still c (laid_on c.replies.version c.requests) s.read;
-  sends = sends-laid c.replies.own c.replies.version c.requests sent s.chunk s.sends;
+pub stands_laid : (c : CallerState) (sent : List ℕ) → CallerStandsFor c sent → CallerStandsFor (record c { requests = laid_on c.replies.version c.requests }) sent
+stands_laid c sent s = record {
+  chunk = chunk_laid c.replies.version c.requests s.chunk;
+  read = reads_still c (laid_on c.replies.version c.requests) s.read;
+  sends = sends_laid c.replies.own c.replies.version c.requests sent s.chunk s.sends;
 }
 
 pub lends : (old : CallerState) (r : RequestsState) (piece : List ℕ) → old.replies.outcome ≡ None → r ≡ laid_on old.replies.version old.requests → piece ≡ r.waiting
@@ -262,9 +262,9 @@ pub lends : (old : CallerState) (r : RequestsState) (piece : List ℕ) → old.r
 lends old r piece none is lent =
     let yes : is_none old.replies.outcome ≡ true = rw none refl in
     record {
-      piece_is = lent ∙ sym (if-true (is_none old.replies.outcome) _ _ yes);
-      new_is = ap (λ x. later x) (is ∙ sym (if-true (is_none old.replies.outcome) _ _ yes));
-      stands = λ sent s. let P : RequestsState → Type 0 = λ x. CallerStandsFor (record old { requests = x }) sent in subst P (sym is) (stands-laid old sent s);
+      piece_is = lent ∙ sym (if_true (is_none old.replies.outcome) _ _ yes);
+      new_is = ap (λ x. later x) (is ∙ sym (if_true (is_none old.replies.outcome) _ _ yes));
+      stands = λ sent s. let P : RequestsState → Type 0 = λ x. CallerStandsFor (record old { requests = x }) sent in subst P (sym is) (stands_laid old sent s);
     }
   where
     later : RequestsState → CallerState
@@ -276,40 +276,40 @@ still c none = by_version c.replies.version refl
     By : Option ℕ → Type 0
     By v = ((laid_on v c.requests).waiting ≡ []) ↔ IsStill c
 
-    nothing-decided : IsSome c.replies.outcome → ⊥
-    nothing-decided some = none-is c.replies.outcome none some
+    nothing_decided : IsSome c.replies.outcome → ⊥
+    nothing_decided some = none_is c.replies.outcome none some
 
     by_closed : (version : ℕ) → c.replies.version ≡ Some version → c.requests.waiting ≡ [] → (b : Bool) → c.requests.closed ≡ b → ((laid_next version c.requests).waiting ≡ []) ↔ IsStill c
     by_closed version is empty true closed =
-        let same : laid_next version c.requests ≡ c.requests = if-true c.requests.closed _ _ closed in
+        let same : laid_next version c.requests ≡ c.requests = if_true c.requests.closed _ _ closed in
         (λ h. inr (inl (closed, empty)), λ h. ap (λ r. r.waiting) same ∙ empty)
     by_closed version is empty false closed = by_more (nat_lt c.requests.laid (length c.requests.input)) refl
       where
         not_still : IsStill c → ⊥
-        not_still (inl some) = nothing-decided some
+        not_still (inl some) = nothing_decided some
         not_still (inr (inl all)) = let no : false ≡ true = sym closed ∙ all.0 in cc
         not_still (inr (inr waits)) = let no : None ≡ Some version = sym waits.0 ∙ is in cc
 
         by_more : (b : Bool) → nat_lt c.requests.laid (length c.requests.input) ≡ b → ((laid_next version c.requests).waiting ≡ []) ↔ IsStill c
         by_more true more =
             let r : laid_next version c.requests ≡ record c.requests { laid = c.requests.laid + next_len version c.requests; waiting = c.requests.waiting ++ written (Stdin (take (next_len version c.requests) (drop c.requests.laid c.requests.input))) }
-            = if-false c.requests.closed _ _ closed ∙ if-true (nat_lt c.requests.laid (length c.requests.input)) _ _ more in
-            (λ h. absurd (not-empty c.requests.waiting _ (written-some (record { stream = In; bytes = take (next_len version c.requests) (drop c.requests.laid c.requests.input) })) (sym (ap (λ x. x.waiting) r) ∙ h)), λ h. absurd (not_still h))
+            = if_false c.requests.closed _ _ closed ∙ if_true (nat_lt c.requests.laid (length c.requests.input)) _ _ more in
+            (λ h. absurd (not_empty_lem c.requests.waiting _ (written_some (record { stream = In; bytes = take (next_len version c.requests) (drop c.requests.laid c.requests.input) })) (sym (ap (λ x. x.waiting) r) ∙ h)), λ h. absurd (not_still h))
         by_more false more =
             let r : laid_next version c.requests ≡ record c.requests { closed = true; waiting = c.requests.waiting ++ written (Stdin []) }
-            = if-false c.requests.closed _ _ closed ∙ if-false (nat_lt c.requests.laid (length c.requests.input)) _ _ more in
-            (λ h. absurd (not-empty c.requests.waiting _ (written-some (end_of In)) (sym (ap (λ x. x.waiting) r) ∙ h)), λ h. absurd (not_still h))
+            = if_false c.requests.closed _ _ closed ∙ if_false (nat_lt c.requests.laid (length c.requests.input)) _ _ more in
+            (λ h. absurd (not_empty_lem c.requests.waiting _ (written_some (end_of In)) (sym (ap (λ x. x.waiting) r) ∙ h)), λ h. absurd (not_still h))
 
     by_waiting : (version : ℕ) → c.replies.version ≡ Some version → (b : Bool) → (length c.requests.waiting == 0) ≡ b → By (Some version)
     by_waiting version is true empty =
         let P : RequestsState → Type 0 = λ r. (r.waiting ≡ []) ↔ IsStill c in
-        subst P (sym (if-true (length c.requests.waiting == 0) _ _ empty)) (by_closed version is (no-length c.requests.waiting empty) c.requests.closed refl)
+        subst P (sym (if_true (length c.requests.waiting == 0) _ _ empty)) (by_closed version is (no_length c.requests.waiting empty) c.requests.closed refl)
     by_waiting version is false some =
         let P : RequestsState → Type 0 = λ r. (r.waiting ≡ []) ↔ IsStill c in
-        subst P (sym (if-false (length c.requests.waiting == 0) _ _ some)) (λ h. absurd (has-length c.requests.waiting some h), λ h. not_empty h)
+        subst P (sym (if_false (length c.requests.waiting == 0) _ _ some)) (λ h. absurd (has_length c.requests.waiting some h), λ h. not_empty h)
       where
         not_empty : IsStill c → c.requests.waiting ≡ []
-        not_empty (inl one) = absurd (nothing-decided one)
+        not_empty (inl one) = absurd (nothing_decided one)
         not_empty (inr (inl all)) = all.1
         not_empty (inr (inr waits)) = waits.1
 
@@ -317,21 +317,21 @@ still c none = by_version c.replies.version refl
     by_version None is = let P : Option ℕ → Type 0 = By in subst P (sym is) (λ h. inr (inr (is, h)), λ h. empty h)
       where
         empty : IsStill c → c.requests.waiting ≡ []
-        empty (inl one) = absurd (nothing-decided one)
+        empty (inl one) = absurd (nothing_decided one)
         empty (inr (inl all)) = all.1
         empty (inr (inr waits)) = waits.1
     by_version (Some version) is = let P : Option ℕ → Type 0 = By in subst P (sym is) (by_waiting version is (length c.requests.waiting == 0) refl)
 
 -- the answers of `front` if there is no outcome
-pub none-if : (o : Option Outcome) → is_some o ≡ false → o ≡ None
-none-if None is = refl
-none-if (Some x) is = cc
+pub none_if : (o : Option Outcome) → is_some o ≡ false → o ≡ None
+none_if None is = refl
+none_if (Some x) is = cc
 
-pub lends-inside : (old inside : CallerState) (r : RequestsState) (version : Option ℕ) (piece : List ℕ) → inside ≡ old → is_some inside.replies.outcome ≡ false → version ≡ inside.replies.version
+pub lends_inside : (old inside : CallerState) (r : RequestsState) (version : Option ℕ) (piece : List ℕ) → inside ≡ old → is_some inside.replies.outcome ≡ false → version ≡ inside.replies.version
     → r ≡ laid_on version inside.requests → piece ≡ r.waiting → LendsRequests old (record inside { requests = r }) piece × ((piece ≡ []) ↔ IsStill old)
-lends-inside old inside r version piece same none agreed laid lent =
+lends_inside old inside r version piece same none agreed laid lent =
     let is : r ≡ laid_on inside.replies.version inside.requests = laid ∙ ap (λ v. laid_on v inside.requests) agreed in
     let P : CallerState → Type 0 = λ c. LendsRequests c (record inside { requests = r }) piece × ((piece ≡ []) ↔ IsStill c) in
-    let s = still inside (none-if inside.replies.outcome none) in
+    let s = still inside (none_if inside.replies.outcome none) in
     let w : piece ≡ (laid_on inside.replies.version inside.requests).waiting = lent ∙ ap (λ x. x.waiting) is in
-    subst P same (lends inside r piece (none-if inside.replies.outcome none) is lent, (λ h. s.0 (sym w ∙ h), λ h. w ∙ s.1 h))
+    subst P same (lends inside r piece (none_if inside.replies.outcome none) is lent, (λ h. s.0 (sym w ∙ h), λ h. w ∙ s.1 h))

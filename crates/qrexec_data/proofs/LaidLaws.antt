@@ -5,8 +5,8 @@ use Rattle.std.proofs.lemmas.Bool.Decides.{nat_tests}
 use Rattle.std.proofs.lemmas.Bool.{eqb-true}
 use Rattle.std.specs.Prelude.{true, false, Bool, ℤ, ◌&&◌, ◌==◌, nat_lt, min, IsSome, is_some, is_none, if◌then◌else◌, ◌↔◌}
 use Rattle.std.specs.List.{flat_map}
-use Rattle.list_laws.proofs.Tests.{no-length, has-length, not-empty}
-use Rattle.list_laws.proofs.Results.{none-is}
+use Rattle.list_laws.proofs.Tests.{no_length, has_length, not_empty_lem}
+use Rattle.list_laws.proofs.Results.{none_is}
 use Rattle.qrexec_frame.specs.declared.message.Message.{Message}
 use Rattle.qrexec_frame.specs.declared.message.Message.TheVariants.{Hello, Stdout, Stderr, ExitCode}
 use Rattle.qrexec_frame.specs.Messages.{written}
@@ -19,12 +19,12 @@ use Rattle.qrexec_data.specs.Seeing.{Seen}
 use Rattle.qrexec_data.specs.Sending.{agreed_by, most}
 use Rattle.qrexec_data.specs.Answering.{AnsweringState, next_len, laid_end, laid_next, laid_on, end_bytes, done_if, is_over, over_if, after_gone}
 use Rattle.qrexec_data.specs.ServingSide.{ServingState, Gives, ends_if, SendsOutputs, SendsAnswers, AgreesWith, Serves, IsServing, ServingStandsFor, LendsAnswers, HasGivenAll, IsStill}
-use Rattle.qrexec_data.proofs.RepliesLaws.{if-true, if-false}
-use Rattle.qrexec_data.proofs.HearingLaws.{joined-piece, joined-other}
-use Rattle.qrexec_data.proofs.SpelledLaws.{spelled, spelled-behind, each-one, gone-on}
-use Rattle.qrexec_data.proofs.AnsweringLaws.{none-if}
-use Rattle.qrexec_data.proofs.ServesLaws.{sends-faulted}
-use Rattle.qrexec_data.proofs.MaySendLaws.{some-limit, flat-more}
+use Rattle.qrexec_data.proofs.RepliesLaws.{if_true, if_false}
+use Rattle.qrexec_data.proofs.HearingLaws.{joined_piece, joined_other}
+use Rattle.qrexec_data.proofs.SpelledLaws.{spelled, spelled_behind, each_one, gone_on}
+use Rattle.qrexec_data.proofs.AnsweringLaws.{none_if}
+use Rattle.qrexec_data.proofs.ServesLaws.{sends_faulted}
+use Rattle.qrexec_data.proofs.MaySendLaws.{some_limit, flat_more}
 
 -- ---- what stays
 
@@ -35,27 +35,27 @@ pub record Same {S : Type 0} (a b : AnsweringState S) : Type 0 where
   pub code : b.code ≡ a.code
   pub outcome : b.outcome ≡ a.outcome
 
-same-if : {S : Type 0} (a : AnsweringState S) (b : Bool) (x y : AnsweringState S) → Same a x → Same a y → Same a (if b then x else y)
-same-if a true x y h k = h
-same-if a false x y h k = k
+same_if : {S : Type 0} (a : AnsweringState S) (b : Bool) (x y : AnsweringState S) → Same a x → Same a y → Same a (if b then x else y)
+same_if a true x y h k = h
+same_if a false x y h k = k
 
-same-end : {S : Type 0} (a : AnsweringState S) (code : Option ℤ) → Same a (laid_end code a)
-same-end a None = record { own = refl; chunk = refl; version = refl; code = refl; outcome = refl }
-same-end a (Some code) = same-if a a.closed _ _ (record { own = refl; chunk = refl; version = refl; code = refl; outcome = refl }) (record { own = refl; chunk = refl; version = refl; code = refl; outcome = refl })
+same_end : {S : Type 0} (a : AnsweringState S) (code : Option ℤ) → Same a (laid_end code a)
+same_end a None = record { own = refl; chunk = refl; version = refl; code = refl; outcome = refl }
+same_end a (Some code) = same_if a a.closed _ _ (record { own = refl; chunk = refl; version = refl; code = refl; outcome = refl }) (record { own = refl; chunk = refl; version = refl; code = refl; outcome = refl })
 
-pub same-laid : {S : Type 0} (version : Option ℕ) (a : AnsweringState S) → Same a (laid_on version a)
-same-laid None a = record { own = refl; chunk = refl; version = refl; code = refl; outcome = refl }
-same-laid (Some version) a =
-    same-if a (length a.waiting == 0) _ _
-    (same-if a (nat_lt 0 (length a.out)) _ _ (record { own = refl; chunk = refl; version = refl; code = refl; outcome = refl })
-    (same-if a (nat_lt 0 (length a.err)) _ _ (record { own = refl; chunk = refl; version = refl; code = refl; outcome = refl }) (same-end a a.code)))
+pub same_laid : {S : Type 0} (version : Option ℕ) (a : AnsweringState S) → Same a (laid_on version a)
+same_laid None a = record { own = refl; chunk = refl; version = refl; code = refl; outcome = refl }
+same_laid (Some version) a =
+    same_if a (length a.waiting == 0) _ _
+    (same_if a (nat_lt 0 (length a.out)) _ _ (record { own = refl; chunk = refl; version = refl; code = refl; outcome = refl })
+    (same_if a (nat_lt 0 (length a.err)) _ _ (record { own = refl; chunk = refl; version = refl; code = refl; outcome = refl }) (same_end a a.code)))
     (record { own = refl; chunk = refl; version = refl; code = refl; outcome = refl })
 
 -- what is known stays, if what is sent stays
-serves-same : {S : Type 0} (owes : S → List ℕ → Triple) (owed : List ℕ → Triple) (a b : AnsweringState S) (sent sent' : List ℕ) → Same a b
+serves_same : {S : Type 0} (owes : S → List ℕ → Triple) (owed : List ℕ → Triple) (a b : AnsweringState S) (sent sent' : List ℕ) → Same a b
     → ((input : List ℕ) → SendsAnswers owes owed a.version a input sent → SendsAnswers owes owed b.version b input sent') → (placed : List (Placed Message)) (seen : Seen)
     → Serves owes owed a sent placed seen → Serves owes owed b sent' placed seen
-serves-same owes owed a b sent sent' same sends placed seen s =
+serves_same owes owed a b sent sent' same sends placed seen s =
     let O : Option Outcome → Type 0 = λ o. AgreesWith o seen in
     record {
       outcome = subst O (sym same.outcome) s.outcome;
@@ -75,32 +75,32 @@ regives owes owed (Some code) a b input ps qs service out err g = g ∙ (λ i. r
 moved : (j out : List ℕ) (n : ℕ) (k : List ℕ) → k ≡ j ++ take n out → j ++ out ≡ k ++ drop n out
 moved j out n k is = sym (ap (λ x. x ++ drop n out) is ∙ append_assoc j (take n out) (drop n out) ∙ ap (λ x. j ++ x) (take-append-drop n out))
 
-no-bytes : (xs : List ℕ) → nat_lt 0 (length xs) ≡ false → xs ≡ []
-no-bytes [] is = refl
-no-bytes (x ∷ xs) is = let none : suc (length xs) ≤ 0 = grind (arith, nat_tests, is) in absurd (omega (arith, none))
+no_bytes : (xs : List ℕ) → nat_lt 0 (length xs) ≡ false → xs ≡ []
+no_bytes [] is = refl
+no_bytes (x ∷ xs) is = let none : suc (length xs) ≤ 0 = grind (arith, nat_tests, is) in absurd (omega (arith, none))
 
-some-bytes : (xs : List ℕ) → nat_lt 0 (length xs) ≡ true → 0 < length xs
-some-bytes xs is = grind (arith, nat_tests, is)
+some_bytes : (xs : List ℕ) → nat_lt 0 (length xs) ≡ true → 0 < length xs
+some_bytes xs is = grind (arith, nat_tests, is)
 
-some-not : (xs : List ℕ) → 0 < length xs → xs ≡ [] → ⊥
-some-not xs some is = let none : length xs ≡ 0 = ap length is in omega (arith, some, none)
+some_not : (xs : List ℕ) → 0 < length xs → xs ≡ [] → ⊥
+some_not xs some is = let none : length xs ≡ 0 = ap length is in omega (arith, some, none)
 
 -- a piece of an output is laid
-sends-one : {S : Type 0} (owes : S → List ℕ → Triple) (owed : List ℕ → Triple) (limit : ℕ) (a b : AnsweringState S) (input sent : List ℕ) (p : Piece) (s : SendsOutputs owes owed limit a input sent)
+sends_one : {S : Type 0} (owes : S → List ℕ → Triple) (owed : List ℕ → Triple) (limit : ℕ) (a b : AnsweringState S) (input sent : List ℕ) (p : Piece) (s : SendsOutputs owes owed limit a input sent)
     → is_output p.stream ≡ true → 0 < length p.bytes → length p.bytes ≤ limit → a.closed ≡ false → b.own ≡ a.own → b.closed ≡ a.closed → b.code ≡ a.code → b.service ≡ a.service
     → b.waiting ≡ a.waiting ++ written (message_of p)
     → joined Out s.pieces ++ a.out ≡ joined Out (s.pieces ++ p ∷ []) ++ b.out → joined Errors s.pieces ++ a.err ≡ joined Errors (s.pieces ++ p ∷ []) ++ b.err
     → SendsOutputs owes owed limit b input sent
-sends-one owes owed limit a b input sent p s output some least shut own closed code service waits out err =
+sends_one owes owed limit a b input sent p s output some least shut own closed code service waits out err =
     let none : (c : Bool) (x : Option ℤ) → c ≡ false → ends_if c x ≡ [] = λ c x is. ap (λ y. ends_if y x) is in
     let before : sent ++ a.waiting ≡ written (Hello a.own) ++ spelled s.pieces
     = s.stream ∙ ap (λ e. written (Hello a.own) ++ flat_map written (map message_of s.pieces ++ e)) (none a.closed a.code shut) ∙ ap (λ ms. written (Hello a.own) ++ flat_map written ms) (append-nil (map message_of s.pieces)) in
     let G : Option ℤ → Type 0 = λ c. Gives owes owed c b input (s.pieces ++ p ∷ []) in
     record {
       pieces = s.pieces ++ p ∷ [];
-      each = each-one is_output limit s.pieces p s.each ((output, some, least), tt);
+      each = each_one is_output limit s.pieces p s.each ((output, some, least), tt);
       gives = subst G (sym code) (regives owes owed a.code a b input s.pieces (s.pieces ++ p ∷ []) service out err s.gives);
-      stream = ap (λ w. sent ++ w) waits ∙ spelled-behind (written (Hello a.own)) sent a.waiting s.pieces p before
+      stream = ap (λ w. sent ++ w) waits ∙ spelled_behind (written (Hello a.own)) sent a.waiting s.pieces p before
           ∙ ap (λ ms. written (Hello a.own) ++ flat_map written ms) (sym (append-nil (map message_of (s.pieces ++ p ∷ []))))
           ∙ ap (λ e. written (Hello a.own) ++ flat_map written (map message_of (s.pieces ++ p ∷ []) ++ e)) (sym (none b.closed b.code (closed ∙ shut)))
           ∙ ap (λ n. flat_map written (Hello n ∷ (map message_of (s.pieces ++ p ∷ []) ++ ends_if b.closed b.code))) (sym own);
@@ -108,9 +108,9 @@ sends-one owes owed limit a b input sent p s output some least shut own closed c
     }
 
 -- the ends and the exit code are laid
-sends-ends : {S : Type 0} (owes : S → List ℕ → Triple) (owed : List ℕ → Triple) (limit : ℕ) (a : AnsweringState S) (input sent : List ℕ) (code : ℤ) → SendsOutputs owes owed limit a input sent
+sends_ends : {S : Type 0} (owes : S → List ℕ → Triple) (owed : List ℕ → Triple) (limit : ℕ) (a : AnsweringState S) (input sent : List ℕ) (code : ℤ) → SendsOutputs owes owed limit a input sent
     → a.closed ≡ false → a.code ≡ Some code → a.out ≡ [] → a.err ≡ [] → SendsOutputs owes owed limit (record a { closed = true; waiting = a.waiting ++ end_bytes code }) input sent
-sends-ends {S} owes owed limit a input sent code s shut code_is out err =
+sends_ends {S} owes owed limit a input sent code s shut code_is out err =
     let ends : List Message = Stdout [] ∷ Stderr [] ∷ ExitCode code ∷ [] in
     let head : List ℕ = written (Hello a.own) ++ flat_map written (map message_of s.pieces) in
     let none : ends_if a.closed a.code ≡ [] = ap (λ c. ends_if c a.code) shut in
@@ -126,32 +126,32 @@ sends-ends {S} owes owed limit a input sent code s shut code_is out err =
       gives = regives owes owed a.code a b input s.pieces s.pieces refl refl refl s.gives;
       stream = sym (append_assoc sent a.waiting (end_bytes code)) ∙ ap (λ x. x ++ end_bytes code) before ∙ ap (λ x. head ++ x) bytes
           ∙ append_assoc (written (Hello a.own)) (flat_map written (map message_of s.pieces)) (flat_map written ends)
-          ∙ ap (λ x. written (Hello a.own) ++ x) (sym (flat-more (map message_of s.pieces) ends))
+          ∙ ap (λ x. written (Hello a.own) ++ x) (sym (flat_more (map message_of s.pieces) ends))
           ∙ ap (λ e. written (Hello a.own) ++ flat_map written (map message_of s.pieces ++ e)) (sym last);
       done = λ _. (out, err, ap is_some code_is);
     }
 
-not-closed : {S : Type 0} (owes : S → List ℕ → Triple) (owed : List ℕ → Triple) (limit : ℕ) (a : AnsweringState S) (input sent : List ℕ) → SendsOutputs owes owed limit a input sent
+not_closed : {S : Type 0} (owes : S → List ℕ → Triple) (owed : List ℕ → Triple) (limit : ℕ) (a : AnsweringState S) (input sent : List ℕ) → SendsOutputs owes owed limit a input sent
     → ((a.out ≡ []) × (a.err ≡ []) → ⊥) → (b : Bool) → a.closed ≡ b → a.closed ≡ false
-not-closed owes owed limit a input sent s some true is = absurd (some ((s.done is).0, (s.done is).1))
-not-closed owes owed limit a input sent s some false is = is
+not_closed owes owed limit a input sent s some true is = absurd (some ((s.done is).0, (s.done is).1))
+not_closed owes owed limit a input sent s some false is = is
 
-sends-next : {S : Type 0} (owes : S → List ℕ → Triple) (owed : List ℕ → Triple) (version : ℕ) (a : AnsweringState S) (input sent : List ℕ) → 0 < a.chunk
+sends_next : {S : Type 0} (owes : S → List ℕ → Triple) (owed : List ℕ → Triple) (version : ℕ) (a : AnsweringState S) (input sent : List ℕ) → 0 < a.chunk
     → SendsOutputs owes owed (min a.chunk (most version)) a input sent → SendsOutputs owes owed (min a.chunk (most version)) (laid_next version a) input sent
-sends-next {S} owes owed version a input sent chunk s = by_out (nat_lt 0 (length a.out)) refl
+sends_next {S} owes owed version a input sent chunk s = by_out (nat_lt 0 (length a.out)) refl
   where
     limit : ℕ
     limit = min a.chunk (most version)
 
     room : 0 < limit
-    room = some-limit a.chunk version chunk
+    room = some_limit a.chunk version chunk
 
     Is : AnsweringState S → Type 0
     Is x = SendsOutputs owes owed limit x input sent
 
     by_closed : (code : ℤ) → a.code ≡ Some code → a.out ≡ [] → a.err ≡ [] → (b : Bool) → a.closed ≡ b → Is (laid_end (Some code) a)
-    by_closed code is out err true closed = subst Is (sym (if-true a.closed _ _ closed)) s
-    by_closed code is out err false closed = subst Is (sym (if-false a.closed _ _ closed)) (sends-ends owes owed limit a input sent code s closed is out err)
+    by_closed code is out err true closed = subst Is (sym (if_true a.closed _ _ closed)) s
+    by_closed code is out err false closed = subst Is (sym (if_false a.closed _ _ closed)) (sends_ends owes owed limit a input sent code s closed is out err)
 
     by_code : a.out ≡ [] → a.err ≡ [] → (c : Option ℤ) → a.code ≡ c → Is (laid_end c a)
     by_code out err None is = s
@@ -159,50 +159,50 @@ sends-next {S} owes owed version a input sent chunk s = by_out (nat_lt 0 (length
 
     by_err : nat_lt 0 (length a.out) ≡ false → (b : Bool) → nat_lt 0 (length a.err) ≡ b → Is (laid_next version a)
     by_err out true is =
-        let some = some-bytes a.err is in
+        let some = some_bytes a.err is in
         let n : ℕ = next_len version a a.err in
         let size : length (take n a.err) ≡ n = length-take-le n a.err (omega arith) in
         let p : Piece = record { stream = Errors; bytes = take n a.err } in
-        let shut = not-closed owes owed limit a input sent s (λ none. some-not a.err some none.1) a.closed refl in
-        subst Is (sym (if-false (nat_lt 0 (length a.out)) _ _ out ∙ if-true (nat_lt 0 (length a.err)) _ _ is))
-        (sends-one owes owed limit a (record a { err = drop n a.err; waiting = a.waiting ++ written (Stderr (take n a.err)) }) input sent p s refl (omega (arith, size, room, some)) (omega (arith, size)) shut refl refl refl refl refl
-        (ap (λ x. x ++ a.out) (sym (joined-other Out s.pieces p refl))) (moved (joined Errors s.pieces) a.err n _ (joined-piece Errors s.pieces p refl)))
+        let shut = not_closed owes owed limit a input sent s (λ none. some_not a.err some none.1) a.closed refl in
+        subst Is (sym (if_false (nat_lt 0 (length a.out)) _ _ out ∙ if_true (nat_lt 0 (length a.err)) _ _ is))
+        (sends_one owes owed limit a (record a { err = drop n a.err; waiting = a.waiting ++ written (Stderr (take n a.err)) }) input sent p s refl (omega (arith, size, room, some)) (omega (arith, size)) shut refl refl refl refl refl
+        (ap (λ x. x ++ a.out) (sym (joined_other Out s.pieces p refl))) (moved (joined Errors s.pieces) a.err n _ (joined_piece Errors s.pieces p refl)))
     by_err out false is =
-        subst Is (sym (if-false (nat_lt 0 (length a.out)) _ _ out ∙ if-false (nat_lt 0 (length a.err)) _ _ is)) (by_code (no-bytes a.out out) (no-bytes a.err is) a.code refl)
+        subst Is (sym (if_false (nat_lt 0 (length a.out)) _ _ out ∙ if_false (nat_lt 0 (length a.err)) _ _ is)) (by_code (no_bytes a.out out) (no_bytes a.err is) a.code refl)
 
     by_out : (b : Bool) → nat_lt 0 (length a.out) ≡ b → Is (laid_next version a)
     by_out true is =
-        let some = some-bytes a.out is in
+        let some = some_bytes a.out is in
         let n : ℕ = next_len version a a.out in
         let size : length (take n a.out) ≡ n = length-take-le n a.out (omega arith) in
         let p : Piece = record { stream = Out; bytes = take n a.out } in
-        let shut = not-closed owes owed limit a input sent s (λ none. some-not a.out some none.0) a.closed refl in
-        subst Is (sym (if-true (nat_lt 0 (length a.out)) _ _ is))
-        (sends-one owes owed limit a (record a { out = drop n a.out; waiting = a.waiting ++ written (Stdout (take n a.out)) }) input sent p s refl (omega (arith, size, room, some)) (omega (arith, size)) shut refl refl refl refl refl
-        (moved (joined Out s.pieces) a.out n _ (joined-piece Out s.pieces p refl)) (ap (λ x. x ++ a.err) (sym (joined-other Errors s.pieces p refl))))
+        let shut = not_closed owes owed limit a input sent s (λ none. some_not a.out some none.0) a.closed refl in
+        subst Is (sym (if_true (nat_lt 0 (length a.out)) _ _ is))
+        (sends_one owes owed limit a (record a { out = drop n a.out; waiting = a.waiting ++ written (Stdout (take n a.out)) }) input sent p s refl (omega (arith, size, room, some)) (omega (arith, size)) shut refl refl refl refl refl
+        (moved (joined Out s.pieces) a.out n _ (joined_piece Out s.pieces p refl)) (ap (λ x. x ++ a.err) (sym (joined_other Errors s.pieces p refl))))
     by_out false is = by_err is (nat_lt 0 (length a.err)) refl
 
-sends-laid : {S : Type 0} (owes : S → List ℕ → Triple) (owed : List ℕ → Triple) (version : Option ℕ) (a : AnsweringState S) (input sent : List ℕ) → 0 < a.chunk
+sends_laid : {S : Type 0} (owes : S → List ℕ → Triple) (owed : List ℕ → Triple) (version : Option ℕ) (a : AnsweringState S) (input sent : List ℕ) → 0 < a.chunk
     → SendsAnswers owes owed version a input sent → SendsAnswers owes owed version (laid_on version a) input sent
-sends-laid owes owed None a input sent chunk s = s
-sends-laid {S} owes owed (Some version) a input sent chunk s = by_waiting (length a.waiting == 0) refl
+sends_laid owes owed None a input sent chunk s = s
+sends_laid {S} owes owed (Some version) a input sent chunk s = by_waiting (length a.waiting == 0) refl
   where
     Is : AnsweringState S → Type 0
     Is x = SendsOutputs owes owed (min x.chunk (most version)) x input sent
 
     by_waiting : (b : Bool) → (length a.waiting == 0) ≡ b → Is (laid_on (Some version) a)
     by_waiting true is =
-        let laid : laid_on (Some version) a ≡ laid_next version a = if-true (length a.waiting == 0) _ _ is in
-        let size : (laid_next version a).chunk ≡ a.chunk = ap (λ x. x.chunk) (sym laid) ∙ (same-laid (Some version) a).chunk in
+        let laid : laid_on (Some version) a ≡ laid_next version a = if_true (length a.waiting == 0) _ _ is in
+        let size : (laid_next version a).chunk ≡ a.chunk = ap (λ x. x.chunk) (sym laid) ∙ (same_laid (Some version) a).chunk in
         let L : ℕ → Type 0 = λ n. SendsOutputs owes owed (min n (most version)) (laid_next version a) input sent in
-        subst Is (sym laid) (subst L (sym size) (sends-next owes owed version a input sent chunk s))
-    by_waiting false is = subst Is (sym (if-false (length a.waiting == 0) _ _ is)) s
+        subst Is (sym laid) (subst L (sym size) (sends_next owes owed version a input sent chunk s))
+    by_waiting false is = subst Is (sym (if_false (length a.waiting == 0) _ _ is)) s
 
 -- ---- `front`
 
-laid-going : {S : Type 0} (version : Option ℕ) (a : AnsweringState S) → (a.closed ≡ true → 0 < length a.waiting) → (laid_on version a).closed ≡ true → 0 < length (laid_on version a).waiting
-laid-going None a going = going
-laid-going {S} (Some version) a going = by_if (length a.waiting == 0) _ _ (by_if (nat_lt 0 (length a.out)) _ _ (behind (written (Stdout (take (next_len version a a.out) a.out))) (omega arith))
+laid_going : {S : Type 0} (version : Option ℕ) (a : AnsweringState S) → (a.closed ≡ true → 0 < length a.waiting) → (laid_on version a).closed ≡ true → 0 < length (laid_on version a).waiting
+laid_going None a going = going
+laid_going {S} (Some version) a going = by_if (length a.waiting == 0) _ _ (by_if (nat_lt 0 (length a.out)) _ _ (behind (written (Stdout (take (next_len version a a.out) a.out))) (omega arith))
     (by_if (nat_lt 0 (length a.err)) _ _ (behind (written (Stderr (take (next_len version a a.err) a.err))) (omega arith)) (by_code a.code))) going
   where
     Goes : AnsweringState S → Type 0
@@ -223,38 +223,38 @@ laid-going {S} (Some version) a going = by_if (length a.waiting == 0) _ _ (by_if
     by_code None = going
     by_code (Some code) = by_if a.closed _ _ going (λ is. longer a.waiting (end_bytes code) (omega arith))
 
-pub stands-laid : {S : Type 0} (owes : S → List ℕ → Triple) (owed : List ℕ → Triple) (s : ServingState S) (sent : List ℕ) → s.answering.outcome ≡ None → ServingStandsFor owes owed s sent
+pub stands_laid : {S : Type 0} (owes : S → List ℕ → Triple) (owed : List ℕ → Triple) (s : ServingState S) (sent : List ℕ) → s.answering.outcome ≡ None → ServingStandsFor owes owed s sent
     → ServingStandsFor owes owed (record s { answering = laid_on s.answering.version s.answering }) sent
-stands-laid {S} owes owed s sent none stands =
+stands_laid {S} owes owed s sent none stands =
     let a : AnsweringState S = s.answering in
     let b : AnsweringState S = laid_on a.version a in
-    let same : Same a b = same-laid a.version a in
+    let same : Same a b = same_laid a.version a in
     let N : ℕ → Type 0 = λ n. 0 < n in
     let sends : (input : List ℕ) → SendsAnswers owes owed a.version a input sent → SendsAnswers owes owed b.version b input sent = λ input h.
-    let V : Option ℕ → Type 0 = λ v. SendsAnswers owes owed v b input sent in subst V (sym same.version) (sends-laid owes owed a.version a input sent stands.chunk h) in
+    let V : Option ℕ → Type 0 = λ v. SendsAnswers owes owed v b input sent in subst V (sym same.version) (sends_laid owes owed a.version a input sent stands.chunk h) in
     let i : IsServing owes owed s sent = stands.read.goes_on none in
     record {
       chunk = subst N (sym same.chunk) stands.chunk;
       read = record {
-        serves = serves-same owes owed a b sent sent same sends _ _ stands.read.serves;
+        serves = serves_same owes owed a b sent sent same sends _ _ stands.read.serves;
         done = λ code some. let no : None ≡ Some (outcome.Done code) = sym (same.outcome ∙ none) ∙ some in cc;
-        goes_on = λ _. record { undecided = same.outcome ∙ none; at = i.at; going = laid-going a.version a i.going; serves = serves-same owes owed a b sent sent same sends _ _ i.serves };
+        goes_on = λ _. record { undecided = same.outcome ∙ none; at = i.at; going = laid_going a.version a i.going; serves = serves_same owes owed a b sent sent same sends _ _ i.serves };
       };
     }
 
-pub lends-answers : {S : Type 0} (owes : S → List ℕ → Triple) (old inside : ServingState S) (answering : AnsweringState S) (piece : List ℕ) → inside ≡ old
+pub lends_answers : {S : Type 0} (owes : S → List ℕ → Triple) (old inside : ServingState S) (answering : AnsweringState S) (piece : List ℕ) → inside ≡ old
     → is_some inside.answering.outcome ≡ false → answering ≡ laid_on inside.answering.version inside.answering → piece ≡ answering.waiting
     → LendsAnswers owes old (record inside { answering = answering }) piece
-lends-answers {S} owes old inside answering piece same open_now laid lent =
-    let none : inside.answering.outcome ≡ None = none-if inside.answering.outcome open_now in
+lends_answers {S} owes old inside answering piece same open_now laid lent =
+    let none : inside.answering.outcome ≡ None = none_if inside.answering.outcome open_now in
     let goes : is_none inside.answering.outcome ≡ true = ap is_none none in
     let P : ServingState S → Type 0 = λ s. LendsAnswers owes s (record inside { answering = answering }) piece in
     let moves : answering ≡ (if is_none inside.answering.outcome then laid_on inside.answering.version inside.answering else inside.answering)
-    = laid ∙ sym (if-true (is_none inside.answering.outcome) _ _ goes) in
+    = laid ∙ sym (if_true (is_none inside.answering.outcome) _ _ goes) in
     subst P same (record {
-      piece_is = lent ∙ sym (if-true (is_none inside.answering.outcome) _ _ goes);
+      piece_is = lent ∙ sym (if_true (is_none inside.answering.outcome) _ _ goes);
       new_is = λ i. record { inbox = inside.inbox; answering = moves i };
-      stands = λ owed sent h. let Q : AnsweringState S → Type 0 = λ x. ServingStandsFor owes owed (record inside { answering = x }) sent in subst Q (sym laid) (stands-laid owes owed inside sent none h);
+      stands = λ owed sent h. let Q : AnsweringState S → Type 0 = λ x. ServingStandsFor owes owed (record inside { answering = x }) sent in subst Q (sym laid) (stands_laid owes owed inside sent none h);
     })
 
 -- ---- bytes have gone
@@ -264,41 +264,41 @@ take-nil zero xs is = refl
 take-nil (suc n) [] is = refl
 take-nil (suc n) (x ∷ xs) is = cc
 
-drop-nil : (n : ℕ) (xs : List ℕ) → xs ≡ [] → drop n xs ≡ []
-drop-nil zero xs is = is
-drop-nil (suc n) [] is = refl
-drop-nil (suc n) (x ∷ xs) is = cc
+drop_nil : (n : ℕ) (xs : List ℕ) → xs ≡ [] → drop n xs ≡ []
+drop_nil zero xs is = is
+drop_nil (suc n) [] is = refl
+drop_nil (suc n) (x ∷ xs) is = cc
 
-sends-gone : {S : Type 0} (owes : S → List ℕ → Triple) (owed : List ℕ → Triple) (version : Option ℕ) (a : AnsweringState S) (count : ℕ) (input sent : List ℕ) → SendsAnswers owes owed version a input sent
+sends_gone : {S : Type 0} (owes : S → List ℕ → Triple) (owed : List ℕ → Triple) (version : Option ℕ) (a : AnsweringState S) (count : ℕ) (input sent : List ℕ) → SendsAnswers owes owed version a input sent
     → SendsAnswers owes owed version (record a { waiting = drop count a.waiting }) input (sent ++ take count a.waiting)
-sends-gone owes owed None a count input sent s = record {
+sends_gone owes owed None a count input sent s = record {
   none = ap (λ x. x ++ take count a.waiting) s.none ∙ take-nil count a.waiting s.waits;
-  waits = drop-nil count a.waiting s.waits;
+  waits = drop_nil count a.waiting s.waits;
   unfed = s.unfed;
   unended = s.unended;
   unclosed = s.unclosed;
   gives = s.gives;
 }
-sends-gone {S} owes owed (Some version) a count input sent s =
+sends_gone {S} owes owed (Some version) a count input sent s =
     let b : AnsweringState S = record a { waiting = drop count a.waiting } in
     record {
       pieces = s.pieces;
       each = s.each;
       gives = regives owes owed a.code a b input s.pieces s.pieces refl refl refl s.gives;
-      stream = gone-on sent a.waiting count ∙ s.stream;
+      stream = gone_on sent a.waiting count ∙ s.stream;
       done = s.done;
     }
 
-length-some : (x : ℕ) (w : List ℕ) → (length (x ∷ w) == 0) ≡ false
-length-some x w = by_test (length (x ∷ w) == 0) refl
+length_some : (x : ℕ) (w : List ℕ) → (length (x ∷ w) == 0) ≡ false
+length_some x w = by_test (length (x ∷ w) == 0) refl
   where
     by_test : (b : Bool) → (length (x ∷ w) == 0) ≡ b → (length (x ∷ w) == 0) ≡ false
     by_test true is = let zero_is : suc (length w) ≡ 0 = eqb-true (suc (length w)) 0 is in absurd (omega (arith, zero_is))
     by_test false is = is
 
 -- whether the session is over
-over-cases : {S : Type 0} (a : AnsweringState S) (b : Bool) → is_over a ≡ b → ((b ≡ true) × (a.closed ≡ true) × (a.waiting ≡ []) × (a.outcome ≡ None)) ⊎ ((b ≡ false) × (a.outcome ≡ None → a.closed ≡ true → 0 < length a.waiting))
-over-cases a b is = by_closed a.closed a.waiting a.outcome is
+over_cases : {S : Type 0} (a : AnsweringState S) (b : Bool) → is_over a ≡ b → ((b ≡ true) × (a.closed ≡ true) × (a.waiting ≡ []) × (a.outcome ≡ None)) ⊎ ((b ≡ false) × (a.outcome ≡ None → a.closed ≡ true → 0 < length a.waiting))
+over_cases a b is = by_closed a.closed a.waiting a.outcome is
   where
     by_closed : (c : Bool) (w : List ℕ) (o : Option Outcome) → (c && (length w == 0) && is_none o) ≡ b → ((b ≡ true) × (c ≡ true) × (w ≡ []) × (o ≡ None)) ⊎ ((b ≡ false) × (o ≡ None → c ≡ true → 0 < length w))
     by_closed true [] None h = inl (sym h, refl, refl, refl)
@@ -306,7 +306,7 @@ over-cases a b is = by_closed a.closed a.waiting a.outcome is
     by_closed true (x ∷ w) o h = inr (sym h ∙ more w o, λ _ _. omega arith)
       where
         more : (w : List ℕ) (o : Option Outcome) → (true && (length (x ∷ w) == 0) && is_none o) ≡ false
-        more w o = rw (length-some x w) refl
+        more w o = rw (length_some x w) refl
     by_closed false w o h = inr (sym h ∙ none w o, λ _ closed. cc)
       where
         none : (w : List ℕ) (o : Option Outcome) → (false && (length w == 0) && is_none o) ≡ false
@@ -314,20 +314,20 @@ over-cases a b is = by_closed a.closed a.waiting a.outcome is
         none w (Some o) = refl
 
 -- the code of a stream that is closed
-closed-code : {S : Type 0} (owes : S → List ℕ → Triple) (owed : List ℕ → Triple) (version : Option ℕ) (a : AnsweringState S) (input sent : List ℕ) → SendsAnswers owes owed version a input sent
+closed_code : {S : Type 0} (owes : S → List ℕ → Triple) (owed : List ℕ → Triple) (version : Option ℕ) (a : AnsweringState S) (input sent : List ℕ) → SendsAnswers owes owed version a input sent
     → a.closed ≡ true → IsSome a.code
-closed-code owes owed None a input sent s closed = let no : false ≡ true = sym s.unclosed ∙ closed in cc
-closed-code owes owed (Some version) a input sent s closed = (s.done closed).2
+closed_code owes owed None a input sent s closed = let no : false ≡ true = sym s.unclosed ∙ closed in cc
+closed_code owes owed (Some version) a input sent s closed = (s.done closed).2
 
 -- some of the bytes that wait have gone
-pub stands-gone : {S : Type 0} (owes : S → List ℕ → Triple) (owed : List ℕ → Triple) (old inside : ServingState S) (answering : AnsweringState S) (sent : List ℕ) (count : ℕ) → inside ≡ old
+pub stands_gone : {S : Type 0} (owes : S → List ℕ → Triple) (owed : List ℕ → Triple) (old inside : ServingState S) (answering : AnsweringState S) (sent : List ℕ) (count : ℕ) → inside ≡ old
     → answering ≡ after_gone count inside.answering → ServingStandsFor owes owed old sent
     → ServingStandsFor owes owed (record inside { answering = answering }) (sent ++ take count old.answering.waiting)
-stands-gone {S} owes owed old inside answering sent count same is stands =
+stands_gone {S} owes owed old inside answering sent count same is stands =
     let Q : ServingState S → Type 0 = λ s. ServingStandsFor owes owed (record inside { answering = answering }) (sent ++ take count s.answering.waiting) in
     let A : ServingState S → Type 0 = λ s. ServingStandsFor owes owed s sent in
     let P : AnsweringState S → Type 0 = λ x. ServingStandsFor owes owed (record inside { answering = x }) (sent ++ take count inside.answering.waiting) in
-    subst Q same (subst P (sym is) (by_over (subst A (sym same) stands) (over-cases gone (is_over gone) refl)))
+    subst Q same (subst P (sym is) (by_over (subst A (sym same) stands) (over_cases gone (is_over gone) refl)))
   where
     gone : AnsweringState S
     gone = record inside.answering { waiting = drop count inside.answering.waiting }
@@ -339,15 +339,15 @@ stands-gone {S} owes owed old inside answering sent count same is stands =
     kept = record { own = refl; chunk = refl; version = refl; code = refl; outcome = refl }
 
     sends : (input : List ℕ) → SendsAnswers owes owed inside.answering.version inside.answering input sent → SendsAnswers owes owed gone.version gone input now
-    sends input h = sends-gone owes owed inside.answering.version inside.answering count input sent h
+    sends input h = sends_gone owes owed inside.answering.version inside.answering count input sent h
 
     On : AnsweringState S → Type 0
     On x = ServingStandsFor owes owed (record inside { answering = x }) now
 
     by_code : (s : ServingStandsFor owes owed inside sent) → gone.closed ≡ true → gone.waiting ≡ [] → gone.outcome ≡ None → IsSome gone.code → (c : Option ℤ) → gone.code ≡ c → On (done_if c gone)
-    by_code s closed empty none some None is = absurd (none-is gone.code is some)
+    by_code s closed empty none some None is = absurd (none_is gone.code is some)
     by_code s closed empty none some (Some code) is =
-        let k = serves-same owes owed inside.answering gone sent now kept sends _ _ s.read.serves in
+        let k = serves_same owes owed inside.answering gone sent now kept sends _ _ s.read.serves in
         record {
           chunk = s.chunk;
           read = record {
@@ -355,7 +355,7 @@ stands-gone {S} owes owed old inside answering sent count same is stands =
               outcome = (rw none at k.outcome, sym k.ended ∙ some);
               ended = k.ended;
               version = k.version;
-              sends = sends-faulted owes owed gone.version gone (Some (outcome.Done code)) _ now k.sends;
+              sends = sends_faulted owes owed gone.version gone (Some (outcome.Done code)) _ now k.sends;
             };
             done = λ other has. let e : code ≡ other = cc in ((closed, empty), is ∙ ap (λ x. some_code x) e);
             goes_on = λ nothing. cc;
@@ -369,43 +369,43 @@ stands-gone {S} owes owed old inside answering sent count same is stands =
         → ((is_over gone ≡ true) × (gone.closed ≡ true) × (gone.waiting ≡ []) × (gone.outcome ≡ None)) ⊎ ((is_over gone ≡ false) × (gone.outcome ≡ None → gone.closed ≡ true → 0 < length gone.waiting))
         → On (over_if gone)
     by_over s (inl over) =
-        let some : IsSome gone.code = closed-code owes owed inside.answering.version inside.answering _ sent s.read.serves.sends over.1 in
-        subst On (sym (if-true (is_over gone) _ _ over.0)) (by_code s over.1 over.2 over.3 some gone.code refl)
+        let some : IsSome gone.code = closed_code owes owed inside.answering.version inside.answering _ sent s.read.serves.sends over.1 in
+        subst On (sym (if_true (is_over gone) _ _ over.0)) (by_code s over.1 over.2 over.3 some gone.code refl)
     by_over s (inr goes) =
-        subst On (sym (if-false (is_over gone) _ _ goes.0)) (record {
+        subst On (sym (if_false (is_over gone) _ _ goes.0)) (record {
           chunk = s.chunk;
           read = record {
-            serves = serves-same owes owed inside.answering gone sent now kept sends _ _ s.read.serves;
-            done = λ code has. let d = s.read.done code has in ((d.0.0, drop-nil count inside.answering.waiting d.0.1), d.1);
+            serves = serves_same owes owed inside.answering gone sent now kept sends _ _ s.read.serves;
+            done = λ code has. let d = s.read.done code has in ((d.0.0, drop_nil count inside.answering.waiting d.0.1), d.1);
             goes_on = λ nothing. let i = s.read.goes_on nothing in
-                record { undecided = nothing; at = i.at; going = goes.1 nothing; serves = serves-same owes owed inside.answering gone sent now kept sends _ _ i.serves };
+                record { undecided = nothing; at = i.at; going = goes.1 nothing; serves = serves_same owes owed inside.answering gone sent now kept sends _ _ i.serves };
           };
         })
 
 -- ---- if nothing goes out
 
 -- why nothing goes out waits for nothing
-still-waits : {S : Type 0} (a : AnsweringState S) → a.outcome ≡ None → IsStill a → a.waiting ≡ []
-still-waits a none (inl some) = absurd (none-is a.outcome none some)
-still-waits a none (inr (inl unread)) = unread.1
-still-waits a none (inr (inr given)) = given.waits
+still_waits : {S : Type 0} (a : AnsweringState S) → a.outcome ≡ None → IsStill a → a.waiting ≡ []
+still_waits a none (inl some) = absurd (none_is a.outcome none some)
+still_waits a none (inr (inl unread)) = unread.1
+still_waits a none (inr (inr given)) = given.waits
 
 -- and, once greeted, that all was given
-still-given : {S : Type 0} (a : AnsweringState S) (version : ℕ) → a.outcome ≡ None → a.version ≡ Some version → IsStill a → HasGivenAll a
-still-given a version none greeted (inl some) = absurd (none-is a.outcome none some)
-still-given a version none greeted (inr (inl unread)) = let no : None ≡ Some version = sym unread.0 ∙ greeted in cc
-still-given a version none greeted (inr (inr given)) = given
+still_given : {S : Type 0} (a : AnsweringState S) (version : ℕ) → a.outcome ≡ None → a.version ≡ Some version → IsStill a → HasGivenAll a
+still_given a version none greeted (inl some) = absurd (none_is a.outcome none some)
+still_given a version none greeted (inr (inl unread)) = let no : None ≡ Some version = sym unread.0 ∙ greeted in cc
+still_given a version none greeted (inr (inr given)) = given
 
-pub still-serving : {S : Type 0} (a : AnsweringState S) → a.outcome ≡ None → (a.closed ≡ true → 0 < length a.waiting) → ((laid_on a.version a).waiting ≡ []) ↔ IsStill a
-still-serving {S} a none going = by_version a.version refl
+pub still_serving : {S : Type 0} (a : AnsweringState S) → a.outcome ≡ None → (a.closed ≡ true → 0 < length a.waiting) → ((laid_on a.version a).waiting ≡ []) ↔ IsStill a
+still_serving {S} a none going = by_version a.version refl
   where
     By : AnsweringState S → Type 0
     By x = (x.waiting ≡ []) ↔ IsStill a
 
     by_closed : (version : ℕ) (code : ℤ) → a.version ≡ Some version → a.code ≡ Some code → a.waiting ≡ [] → (b : Bool) → a.closed ≡ b → By (laid_end (Some code) a)
-    by_closed version code greeted is empty true closed = absurd (some-not a.waiting (going closed) empty)
+    by_closed version code greeted is empty true closed = absurd (some_not a.waiting (going closed) empty)
     by_closed version code greeted is empty false closed =
-        subst By (sym (if-false a.closed _ _ closed)) (λ h. absurd (not-empty a.waiting (end_bytes code) (omega arith) h), λ h. let g = still-given a version none greeted h in let no : None ≡ Some code = sym g.unended ∙ is in cc)
+        subst By (sym (if_false a.closed _ _ closed)) (λ h. absurd (not_empty_lem a.waiting (end_bytes code) (omega arith) h), λ h. let g = still_given a version none greeted h in let no : None ≡ Some code = sym g.unended ∙ is in cc)
 
     by_code : (version : ℕ) → a.version ≡ Some version → a.waiting ≡ [] → a.out ≡ [] → a.err ≡ [] → (c : Option ℤ) → a.code ≡ c → By (laid_end c a)
     by_code version greeted empty out err None is = (λ h. inr (inr (record { greeted = ap is_some greeted; out = out; err = err; waits = empty; unended = is })), λ h. empty)
@@ -413,33 +413,33 @@ still-serving {S} a none going = by_version a.version refl
 
     by_err : (version : ℕ) → a.version ≡ Some version → a.waiting ≡ [] → nat_lt 0 (length a.out) ≡ false → (b : Bool) → nat_lt 0 (length a.err) ≡ b → By (laid_next version a)
     by_err version greeted empty out true is =
-        subst By (sym (if-false (nat_lt 0 (length a.out)) _ _ out ∙ if-true (nat_lt 0 (length a.err)) _ _ is))
-        (λ h. absurd (not-empty a.waiting (written (Stderr (take (next_len version a a.err) a.err))) (omega arith) h), λ h. absurd (some-not a.err (some-bytes a.err is) (still-given a version none greeted h).err))
+        subst By (sym (if_false (nat_lt 0 (length a.out)) _ _ out ∙ if_true (nat_lt 0 (length a.err)) _ _ is))
+        (λ h. absurd (not_empty_lem a.waiting (written (Stderr (take (next_len version a a.err) a.err))) (omega arith) h), λ h. absurd (some_not a.err (some_bytes a.err is) (still_given a version none greeted h).err))
     by_err version greeted empty out false is =
-        subst By (sym (if-false (nat_lt 0 (length a.out)) _ _ out ∙ if-false (nat_lt 0 (length a.err)) _ _ is)) (by_code version greeted empty (no-bytes a.out out) (no-bytes a.err is) a.code refl)
+        subst By (sym (if_false (nat_lt 0 (length a.out)) _ _ out ∙ if_false (nat_lt 0 (length a.err)) _ _ is)) (by_code version greeted empty (no_bytes a.out out) (no_bytes a.err is) a.code refl)
 
     by_out : (version : ℕ) → a.version ≡ Some version → a.waiting ≡ [] → (b : Bool) → nat_lt 0 (length a.out) ≡ b → By (laid_next version a)
     by_out version greeted empty true is =
-        subst By (sym (if-true (nat_lt 0 (length a.out)) _ _ is))
-        (λ h. absurd (not-empty a.waiting (written (Stdout (take (next_len version a a.out) a.out))) (omega arith) h), λ h. absurd (some-not a.out (some-bytes a.out is) (still-given a version none greeted h).out))
+        subst By (sym (if_true (nat_lt 0 (length a.out)) _ _ is))
+        (λ h. absurd (not_empty_lem a.waiting (written (Stdout (take (next_len version a a.out) a.out))) (omega arith) h), λ h. absurd (some_not a.out (some_bytes a.out is) (still_given a version none greeted h).out))
     by_out version greeted empty false is = by_err version greeted empty is (nat_lt 0 (length a.err)) refl
 
     by_waiting : (version : ℕ) → a.version ≡ Some version → (b : Bool) → (length a.waiting == 0) ≡ b → By (laid_on (Some version) a)
-    by_waiting version greeted true empty = subst By (sym (if-true (length a.waiting == 0) _ _ empty)) (by_out version greeted (no-length a.waiting empty) (nat_lt 0 (length a.out)) refl)
-    by_waiting version greeted false some = subst By (sym (if-false (length a.waiting == 0) _ _ some)) (λ h. absurd (has-length a.waiting some h), λ h. still-waits a none h)
+    by_waiting version greeted true empty = subst By (sym (if_true (length a.waiting == 0) _ _ empty)) (by_out version greeted (no_length a.waiting empty) (nat_lt 0 (length a.out)) refl)
+    by_waiting version greeted false some = subst By (sym (if_false (length a.waiting == 0) _ _ some)) (λ h. absurd (has_length a.waiting some h), λ h. still_waits a none h)
 
     by_version : (v : Option ℕ) → a.version ≡ v → By (laid_on a.version a)
-    by_version None is = let V : Option ℕ → Type 0 = λ v. By (laid_on v a) in subst V (sym is) (λ h. inr (inl (is, h)), λ h. still-waits a none h)
+    by_version None is = let V : Option ℕ → Type 0 = λ v. By (laid_on v a) in subst V (sym is) (λ h. inr (inl (is, h)), λ h. still_waits a none h)
     by_version (Some version) is = let V : Option ℕ → Type 0 = λ v. By (laid_on v a) in subst V (sym is) (by_waiting version is (length a.waiting == 0) refl)
 
-pub lends-nothing : {S : Type 0} (owes : S → List ℕ → Triple) (owed : List ℕ → Triple) (old inside : ServingState S) (answering : AnsweringState S) (piece sent : List ℕ) → inside ≡ old
+pub lends_nothing : {S : Type 0} (owes : S → List ℕ → Triple) (owed : List ℕ → Triple) (old inside : ServingState S) (answering : AnsweringState S) (piece sent : List ℕ) → inside ≡ old
     → is_some inside.answering.outcome ≡ false → answering ≡ laid_on inside.answering.version inside.answering → piece ≡ answering.waiting → ServingStandsFor owes owed old sent
     → (piece ≡ []) ↔ IsStill old.answering
-lends-nothing {S} owes owed old inside answering piece sent same open_now laid lent stands =
-    let none : inside.answering.outcome ≡ None = none-if inside.answering.outcome open_now in
+lends_nothing {S} owes owed old inside answering piece sent same open_now laid lent stands =
+    let none : inside.answering.outcome ≡ None = none_if inside.answering.outcome open_now in
     let A : ServingState S → Type 0 = λ s. ServingStandsFor owes owed s sent in
     let P : ServingState S → Type 0 = λ s. (piece ≡ []) ↔ IsStill s.answering in
     let s : ServingStandsFor owes owed inside sent = subst A (sym same) stands in
-    let h = still-serving inside.answering none (s.read.goes_on none).going in
+    let h = still_serving inside.answering none (s.read.goes_on none).going in
     let w : piece ≡ (laid_on inside.answering.version inside.answering).waiting = lent ∙ ap (λ x. x.waiting) laid in
     subst P same (λ e. h.0 (sym w ∙ e), λ e. w ∙ h.1 e)

@@ -7,38 +7,38 @@ use Rattle.qrexec_frame.specs.declared.message.Message.{Message}
 use Rattle.qrexec_frame.specs.Grammar.{Fault, Spelled}
 use Rattle.qrexec_frame.specs.Fronts.{front, reading}
 use Rattle.qrexec_frame.specs.Streams.{Whole, Bad, Short, Placed, Ending, Rest, FaultAt, read_on, then_reading}
-use Rattle.qrexec_frame.proofs.StreamLaws.{read_on-whole, read_on-short, read_on-bad, reads-then}
-use Rattle.qrexec_frame.proofs.GrammarLaws.{Spelled-front, front-spelled, is_prefix_code}
+use Rattle.qrexec_frame.proofs.StreamLaws.{read_on_whole, read_on_short, read_on_bad, reads_then}
+use Rattle.qrexec_frame.proofs.GrammarLaws.{Spelled_front, front_spelled, is_prefix_code}
 use Rattle.qrexec_data.specs.Reading.{InboxState, read_bytes, unread, read_messages, IsAtMessage}
 
 -- the reading of all bytes goes on from the messages that were read
-pub reading-on : (i : InboxState) → IsAtMessage i → reading Data i.got ≡ then_reading (read_messages i) (read_on (front Data) (unread i) i.read 0)
-reading-on i at =
+pub reading_on : (i : InboxState) → IsAtMessage i → reading Data i.got ≡ then_reading (read_messages i) (read_on (front Data) (unread i) i.read 0)
+reading_on i at =
     let size : length (read_bytes i) ≡ i.read = length-take-le i.read i.got at.within in
     let zero_first : 0 + length (read_bytes i) ≡ i.read = omega (arith, size) in
-    let all = reads-then (front Data) (is_prefix_code Data) (read_bytes i) (unread i) 0 0 (omega arith) at.whole in
+    let all = reads_then (front Data) (is_prefix_code Data) (read_bytes i) (unread i) 0 0 (omega arith) at.whole in
     ap (reading Data) (sym (take-append-drop i.read i.got)) ∙ all ∙ rw zero_first refl
 
 -- no whole message follows
-pub reading-short : (i : InboxState) → IsAtMessage i → front Data (unread i) ≡ Short → reading Data i.got ≡ record { placed = read_messages i; ending = Rest (length (unread i)) }
-reading-short i at short =
-    let ended = read_on-short (front Data) (unread i) i.read short in
-    reading-on i at ∙ rw ended (rw (append-nil (read_messages i)) refl)
+pub reading_short : (i : InboxState) → IsAtMessage i → front Data (unread i) ≡ Short → reading Data i.got ≡ record { placed = read_messages i; ending = Rest (length (unread i)) }
+reading_short i at short =
+    let ended = read_on_short (front Data) (unread i) i.read short in
+    reading_on i at ∙ rw ended (rw (append-nil (read_messages i)) refl)
 
-no-fault : (g : Fault) → front Data [] ≡ Bad g → ⊥
+no_fault : (g : Fault) → front Data [] ≡ Bad g → ⊥
 unfolding front
-no-fault g h = cc
+no_fault g h = cc
 
 -- a faulty message follows
-pub reading-bad : (i : InboxState) → IsAtMessage i → (g : Fault) → front Data (unread i) ≡ Bad g → reading Data i.got ≡ record { placed = read_messages i; ending = FaultAt i.read g }
-reading-bad i at g bad = by_bytes (unread i) refl
+pub reading_bad : (i : InboxState) → IsAtMessage i → (g : Fault) → front Data (unread i) ≡ Bad g → reading Data i.got ≡ record { placed = read_messages i; ending = FaultAt i.read g }
+reading_bad i at g bad = by_bytes (unread i) refl
   where
     by_bytes : (bytes : List ℕ) → unread i ≡ bytes → reading Data i.got ≡ record { placed = read_messages i; ending = FaultAt i.read g }
-    by_bytes [] is = let none : front Data [] ≡ Bad g = ap (front Data) (sym is) ∙ bad in absurd (no-fault g none)
+    by_bytes [] is = let none : front Data [] ≡ Bad g = ap (front Data) (sym is) ∙ bad in absurd (no_fault g none)
     by_bytes (b ∷ bytes) is =
         let some : 0 < length (unread i) = rw is (omega arith) in
-        let ended = read_on-bad (front Data) (unread i) i.read g some bad in
-        reading-on i at ∙ rw ended (rw (append-nil (read_messages i)) refl)
+        let ended = read_on_bad (front Data) (unread i) i.read g some bad in
+        reading_on i at ∙ rw ended (rw (append-nil (read_messages i)) refl)
 
 -- a whole message follows: it is the next of those read
 pub record ReadsNext (i : InboxState) (m : Message) (n : ℕ) : Type 0 where
@@ -49,18 +49,18 @@ pub record ReadsNext (i : InboxState) (m : Message) (n : ℕ) : Type 0 where
   pub ending : Ending Fault
   pub all : reading Data i.got ≡ record { placed = read_messages i ++ record { at = i.read; message = m } ∷ rest; ending = ending }
 
-pub reading-next : (i : InboxState) → IsAtMessage i → (m : Message) (n : ℕ) → front Data (unread i) ≡ Whole m n → ReadsNext i m n
-reading-next i at m n whole = record {
+pub reading_next : (i : InboxState) → IsAtMessage i → (m : Message) (n : ℕ) → front Data (unread i) ≡ Whole m n → ReadsNext i m n
+reading_next i at m n whole = record {
   some = found.0;
   within = omega (arith, found.1, left, at.within);
   now = ap (reading Data) (sym parts) ∙ joined ∙ rw zero_first (rw one refl);
   rest = (read_on (front Data) (drop n (unread i)) (i.read + n) 0).placed;
   ending = (read_on (front Data) (drop n (unread i)) (i.read + n) 0).ending;
-  all = reading-on i at ∙ rw on refl;
+  all = reading_on i at ∙ rw on refl;
 }
   where
     found : (0 < n) × (n ≤ length (unread i)) × Spelled Data (take n (unread i)) m
-    found = front-spelled Data (unread i) m n whole
+    found = front_spelled Data (unread i) m n whole
 
     left : length (unread i) ≡ length i.got - i.read
     left = length-drop i.read i.got
@@ -78,11 +78,11 @@ reading-next i at m n whole = record {
     parts = sym (take-append-add (read_bytes i) (unread i) n) ∙ rw (read_size, take-append-drop i.read i.got) refl
 
     joined : reading Data (read_bytes i ++ take n (unread i)) ≡ then_reading (read_messages i) (read_on (front Data) (take n (unread i)) (0 + length (read_bytes i)) 0)
-    joined = reads-then (front Data) (is_prefix_code Data) (read_bytes i) (take n (unread i)) 0 0 (omega arith) at.whole
+    joined = reads_then (front Data) (is_prefix_code Data) (read_bytes i) (take n (unread i)) 0 0 (omega arith) at.whole
 
     last : (more : List ℕ) → read_on (front Data) (take n (unread i) ++ more) i.read 0
         ≡ record { placed = record { at = i.read; message = m } ∷ (read_on (front Data) more (i.read + length (take n (unread i))) 0).placed; ending = (read_on (front Data) more (i.read + length (take n (unread i))) 0).ending }
-    last more = read_on-whole (front Data) m (take n (unread i)) more i.read (omega (arith, size, found.0)) (Spelled-front Data (take n (unread i)) more m found.2)
+    last more = read_on_whole (front Data) m (take n (unread i)) more i.read (omega (arith, size, found.0)) (Spelled_front Data (take n (unread i)) more m found.2)
 
     one : read_on (front Data) (take n (unread i)) i.read 0 ≡ record { placed = record { at = i.read; message = m } ∷ []; ending = Rest 0 }
     one = ap (λ bytes. read_on (front Data) bytes i.read 0) (sym (append-nil (take n (unread i)))) ∙ last []
@@ -92,7 +92,7 @@ reading-next i at m n whole = record {
     on = ap (λ bytes. read_on (front Data) bytes i.read 0) (sym (take-append-drop n (unread i))) ∙ last (drop n (unread i)) ∙ rw size refl
 
 -- more bytes come
-pub more-bytes : (i : InboxState) (piece : List ℕ) → IsAtMessage i → IsAtMessage (record i { got = i.got ++ piece })
-more-bytes i piece at =
+pub more_bytes : (i : InboxState) (piece : List ℕ) → IsAtMessage i → IsAtMessage (record i { got = i.got ++ piece })
+more_bytes i piece at =
     let same : take i.read (i.got ++ piece) ≡ take i.read i.got = take-append-le i.read i.got piece at.within in
     record { within = omega (arith, at.within, length-append i.got piece); whole = ap (λ bytes. (reading Data bytes).ending) same ∙ at.whole }

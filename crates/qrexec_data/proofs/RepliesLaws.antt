@@ -14,7 +14,7 @@ use Rattle.qrexec_data.specs.Pieces.{Stream, Out, Err as Errors, Piece, joined, 
 use Rattle.qrexec_data.specs.Seeing.{Seen, Undecided, Faulty, Use, Carries, Exits, Strays, sees_on, sees_all, decided, number, offset, caller_use}
 use Rattle.qrexec_data.specs.Sending.{agreed_by}
 use Rattle.qrexec_data.specs.Replies.{RepliesState, faulted, after_piece, after_use, after_greeting, after_message, AgreesWith, KnowsReplies}
-use Rattle.qrexec_data.proofs.HearingLaws.{Greeted, Accepted, Refused, greeted-any, Follows, follows, joined-piece, joined-other, ended-piece, ended-other}
+use Rattle.qrexec_data.proofs.HearingLaws.{Greeted, Accepted, Refused, greeted_any, Follows, follows, joined_piece, joined_other, ended_piece, ended_other}
 
 abbrev pub placed_at : ℕ → Message → Placed Message
 placed_at at m = record { at = at; message = m }
@@ -24,14 +24,14 @@ pub data Heard (r : RepliesState) (placed : List (Placed Message)) (p : Placed M
   GoesOn : r.outcome ≡ None → KnowsReplies r (placed ++ p ∷ []) (sees_all caller_use (placed ++ p ∷ []) (Rest 0)) → Heard r placed p
   Decides : (o : Outcome) → r.outcome ≡ Some o → ((rest : List (Placed Message)) (ending : Ending Fault) → KnowsReplies r (placed ++ p ∷ rest) (sees_all caller_use (placed ++ p ∷ rest) ending)) → Heard r placed p
 
-after-first : (m : Message) (at : ℕ) (r : RepliesState) → r.version ≡ None → after_message m at r ≡ after_greeting (greeting r.own m) r
-after-first m at r is = rw is refl
+after_first : (m : Message) (at : ℕ) (r : RepliesState) → r.version ≡ None → after_message m at r ≡ after_greeting (greeting r.own m) r
+after_first m at r is = rw is refl
 
-after-later : (m : Message) (at version : ℕ) (r : RepliesState) → r.version ≡ Some version → after_message m at r ≡ after_use (caller_use m) at (number m) r
-after-later m at version r is = rw is refl
+after_later : (m : Message) (at version : ℕ) (r : RepliesState) → r.version ≡ Some version → after_message m at r ≡ after_use (caller_use m) at (number m) r
+after_later m at version r is = rw is refl
 
-hears-first : (r : RepliesState) (m : Message) (at : ℕ) → KnowsReplies r [] (decided Undecided) → r.outcome ≡ None → Heard (after_message m at r) [] (placed_at at m)
-hears-first r m at k none = subst Is (sym (after-first m at r k.version)) (by_greeted (greeted-any r.own m))
+hears_first : (r : RepliesState) (m : Message) (at : ℕ) → KnowsReplies r [] (decided Undecided) → r.outcome ≡ None → Heard (after_message m at r) [] (placed_at at m)
+hears_first r m at k none = subst Is (sym (after_first m at r k.version)) (by_greeted (greeted_any r.own m))
   where
     Is : RepliesState → Type 0
     Is now = Heard now [] (placed_at at m)
@@ -91,20 +91,20 @@ decides r o version pieces placed seen out err out_ended err_ended agreed verdic
       version = agreed;
     }
 
-pub small-offset : (at : ℕ) → at < 2 ^ 64 → offset at ≡ at
-small-offset at small = omega arith
+pub small_offset : (at : ℕ) → at < 2 ^ 64 → offset at ≡ at
+small_offset at small = omega arith
 
-pub if-true : {A : Type 0} (b : Bool) (x y : A) → b ≡ true → (if b then x else y) ≡ x
-if-true true x y is = refl
-if-true false x y is = cc
+pub if_true : {A : Type 0} (b : Bool) (x y : A) → b ≡ true → (if b then x else y) ≡ x
+if_true true x y is = refl
+if_true false x y is = cc
 
-pub if-false : {A : Type 0} (b : Bool) (x y : A) → b ≡ false → (if b then x else y) ≡ y
-if-false true x y is = cc
-if-false false x y is = refl
+pub if_false : {A : Type 0} (b : Bool) (x y : A) → b ≡ false → (if b then x else y) ≡ y
+if_false true x y is = cc
+if_false false x y is = refl
 
-hears-later : (r : RepliesState) (q : Placed Message) (placed : List (Placed Message)) (m : Message) (at : ℕ) → at < 2 ^ 64
+hears_later : (r : RepliesState) (q : Placed Message) (placed : List (Placed Message)) (m : Message) (at : ℕ) → at < 2 ^ 64
     → KnowsReplies r (q ∷ placed) (sees_all caller_use (q ∷ placed) (Rest 0)) → r.outcome ≡ None → Heard (after_message m at r) (q ∷ placed) (placed_at at m)
-hears-later r q placed m at small k none = subst Is (sym (after-later m at f.version r version)) (by_view (caller_view m))
+hears_later r q placed m at small k none = subst Is (sym (after_later m at f.version r version)) (by_view (caller_view m))
   where
     Is : RepliesState → Type 0
     Is now = Heard now (q ∷ placed) (placed_at at m)
@@ -154,27 +154,27 @@ hears-later r q placed m at small k none = subst Is (sym (after-later m at f.ver
     after_end : (piece : Piece) → caller_use m ≡ Carries piece → has_ended piece.stream pieces ≡ true → Heard (faulted (fault.AfterEnd at (number m)) r) (q ∷ placed) (placed_at at m)
     after_end piece is ended = over (outcome.Fault (fault.AfterEnd at (number m))) (λ now rest ending same.
         let there : has_ended piece.stream now ≡ true = same piece.stream ∙ ended in
-        rw (is, there) (ap (λ n. Faulty (fault.AfterEnd n (number m))) (small-offset at small), refl))
+        rw (is, there) (ap (λ n. Faulty (fault.AfterEnd n (number m))) (small_offset at small), refl))
 
     output : (bytes : List ℕ) → caller_use m ≡ Carries (record { stream = Out; bytes = bytes }) → (b : Bool) → r.stdout_ended ≡ b
         → Heard (after_piece Out bytes at (number m) r) (q ∷ placed) (placed_at at m)
-    output bytes is true ended = subst Is (sym (if-true r.stdout_ended _ _ ended)) (after_end (record { stream = Out; bytes = bytes }) is (sym k.stdout_ended ∙ ended))
+    output bytes is true ended = subst Is (sym (if_true r.stdout_ended _ _ ended)) (after_end (record { stream = Out; bytes = bytes }) is (sym k.stdout_ended ∙ ended))
     output bytes is false ended =
         let piece : Piece = record { stream = Out; bytes = bytes } in
         let unended : has_ended Out pieces ≡ false = sym k.stdout_ended ∙ ended in
-        subst Is (sym (if-false r.stdout_ended _ _ ended)) (on (record r { stdout = r.stdout ++ bytes; stdout_ended = no_bytes bytes }) piece is unended none refl refl
-        (ap (λ x. x ++ bytes) k.stdout ∙ sym (joined-piece Out pieces piece refl)) (k.stderr ∙ sym (joined-other Errors pieces piece refl))
-        (sym (ended-piece Out pieces piece refl unended)) (k.stderr_ended ∙ sym (ended-other Errors pieces piece refl)))
+        subst Is (sym (if_false r.stdout_ended _ _ ended)) (on (record r { stdout = r.stdout ++ bytes; stdout_ended = no_bytes bytes }) piece is unended none refl refl
+        (ap (λ x. x ++ bytes) k.stdout ∙ sym (joined_piece Out pieces piece refl)) (k.stderr ∙ sym (joined_other Errors pieces piece refl))
+        (sym (ended_piece Out pieces piece refl unended)) (k.stderr_ended ∙ sym (ended_other Errors pieces piece refl)))
 
     error : (bytes : List ℕ) → caller_use m ≡ Carries (record { stream = Errors; bytes = bytes }) → (b : Bool) → r.stderr_ended ≡ b
         → Heard (after_piece Errors bytes at (number m) r) (q ∷ placed) (placed_at at m)
-    error bytes is true ended = subst Is (sym (if-true r.stderr_ended _ _ ended)) (after_end (record { stream = Errors; bytes = bytes }) is (sym k.stderr_ended ∙ ended))
+    error bytes is true ended = subst Is (sym (if_true r.stderr_ended _ _ ended)) (after_end (record { stream = Errors; bytes = bytes }) is (sym k.stderr_ended ∙ ended))
     error bytes is false ended =
         let piece : Piece = record { stream = Errors; bytes = bytes } in
         let unended : has_ended Errors pieces ≡ false = sym k.stderr_ended ∙ ended in
-        subst Is (sym (if-false r.stderr_ended _ _ ended)) (on (record r { stderr = r.stderr ++ bytes; stderr_ended = no_bytes bytes }) piece is unended none refl refl
-        (k.stdout ∙ sym (joined-other Out pieces piece refl)) (ap (λ x. x ++ bytes) k.stderr ∙ sym (joined-piece Errors pieces piece refl))
-        (k.stdout_ended ∙ sym (ended-other Out pieces piece refl)) (sym (ended-piece Errors pieces piece refl unended)))
+        subst Is (sym (if_false r.stderr_ended _ _ ended)) (on (record r { stderr = r.stderr ++ bytes; stderr_ended = no_bytes bytes }) piece is unended none refl refl
+        (k.stdout ∙ sym (joined_other Out pieces piece refl)) (ap (λ x. x ++ bytes) k.stderr ∙ sym (joined_piece Errors pieces piece refl))
+        (k.stdout_ended ∙ sym (ended_other Out pieces piece refl)) (sym (ended_piece Errors pieces piece refl unended)))
 
     by_view : CallerUse m → Heard (after_use (caller_use m) at (number m) r) (q ∷ placed) (placed_at at m)
     by_view (Output bytes is) = let P : Use → Type 0 = λ u. Heard (after_use u at (number m) r) (q ∷ placed) (placed_at at m) in subst P (sym is) (output bytes is r.stdout_ended refl)
@@ -182,9 +182,9 @@ hears-later r q placed m at small k none = subst Is (sym (after-later m at f.ver
     by_view (Exit code is) = let P : Use → Type 0 = λ u. Heard (after_use u at (number m) r) (q ∷ placed) (placed_at at m) in
         subst P (sym is) (over (outcome.Done code) (λ now rest ending same. rw is (refl, refl)))
     by_view (Stray is) = let P : Use → Type 0 = λ u. Heard (after_use u at (number m) r) (q ∷ placed) (placed_at at m) in
-        subst P (sym is) (over (outcome.Fault (fault.WrongSide at (number m))) (λ now rest ending same. rw is (ap (λ n. Faulty (fault.WrongSide n (number m))) (small-offset at small), refl)))
+        subst P (sym is) (over (outcome.Fault (fault.WrongSide at (number m))) (λ now rest ending same. rw is (ap (λ n. Faulty (fault.WrongSide n (number m))) (small_offset at small), refl)))
 
 pub hears : (r : RepliesState) (placed : List (Placed Message)) (m : Message) (at : ℕ) → at < 2 ^ 64
     → KnowsReplies r placed (sees_all caller_use placed (Rest 0)) → r.outcome ≡ None → Heard (after_message m at r) placed (placed_at at m)
-hears r [] m at small k none = hears-first r m at k none
-hears r (q ∷ placed) m at small k none = hears-later r q placed m at small k none
+hears r [] m at small k none = hears_first r m at k none
+hears r (q ∷ placed) m at small k none = hears_later r q placed m at small k none

@@ -3,7 +3,7 @@ use Rattle.std.proofs.Common.{◌≡◌, ℕ, ◌<◌, ◌^◌, List, [], ◌∷
 use Rattle.std.proofs.lemmas.List.{append-nil}
 use Rattle.std.specs.Prelude.{true, false, Bool, ℤ, is_some, min}
 use Rattle.std.specs.List.{flat_map}
-use Rattle.list_laws.proofs.Results.{none-is}
+use Rattle.list_laws.proofs.Results.{none_is}
 use Rattle.qrexec_frame.specs.declared.message.Message.{Message}
 use Rattle.qrexec_frame.specs.declared.message.Message.TheVariants.{Hello, Stdin}
 use Rattle.qrexec_frame.specs.Messages.{written}
@@ -20,8 +20,8 @@ use Rattle.qrexec_data.specs.Seeing.{Seen, Undecided, Faulty, Carries, sees_on, 
 use Rattle.qrexec_data.specs.Sending.{agreed_by, most}
 use Rattle.qrexec_data.specs.Answering.{AnsweringState, AnswersTo, Greets, Stray, Late, Fed, Ended, after_greeting, faulted}
 use Rattle.qrexec_data.specs.ServingSide.{Gives, ends_if, SendsOutputs, SendsNothing, SendsAnswers, Serves}
-use Rattle.qrexec_data.proofs.HearingLaws.{Greeted, Accepted, Refused, greeted-any, Follows, follows, joined-piece, ended-piece}
-use Rattle.qrexec_data.proofs.RepliesLaws.{placed_at, small-offset}
+use Rattle.qrexec_data.proofs.HearingLaws.{Greeted, Accepted, Refused, greeted_any, Follows, follows, joined_piece, ended_piece}
+use Rattle.qrexec_data.proofs.RepliesLaws.{placed_at, small_offset}
 use Rattle.qrexec_data.proofs.PieceLaws.{has_bytes}
 
 -- after one more message: nothing is decided, or whatever follows it makes no difference
@@ -30,26 +30,26 @@ pub data Heard {S : Type 0} (owes : S → List ℕ → Triple) (owed : List ℕ 
   Decides : (f : SessionFault) → a.outcome ≡ Some (outcome.Fault f) → ((rest : List (Placed Message)) (ending : Ending Fault) → Serves owes owed a sent (placed ++ p ∷ rest) (sees_all serving_use (placed ++ p ∷ rest) ending))
       → Heard owes owed sent placed p a
 
-not-none : {A : Type 0} (o : Option A) (x : A) → o ≡ Some x → o ≡ None → ⊥
-not-none None x is none = cc
-not-none (Some y) x is none = cc
+not_none : {A : Type 0} (o : Option A) (x : A) → o ≡ Some x → o ≡ None → ⊥
+not_none None x is none = cc
+not_none (Some y) x is none = cc
 
 -- ---- what is owed
 
-pub gives-faulted : {S : Type 0} (owes : S → List ℕ → Triple) (owed : List ℕ → Triple) (code : Option ℤ) (a : AnsweringState S) (o : Option Outcome) (input : List ℕ) (pieces : List Piece)
+pub gives_faulted : {S : Type 0} (owes : S → List ℕ → Triple) (owed : List ℕ → Triple) (code : Option ℤ) (a : AnsweringState S) (o : Option Outcome) (input : List ℕ) (pieces : List Piece)
     → Gives owes owed code a input pieces → Gives owes owed code (record a { outcome = o }) input pieces
-gives-faulted owes owed None a o input pieces g = g
-gives-faulted owes owed (Some code) a o input pieces g = g
+gives_faulted owes owed None a o input pieces g = g
+gives_faulted owes owed (Some code) a o input pieces g = g
 
-pub sends-faulted : {S : Type 0} (owes : S → List ℕ → Triple) (owed : List ℕ → Triple) (version : Option ℕ) (a : AnsweringState S) (o : Option Outcome) (input sent : List ℕ)
+pub sends_faulted : {S : Type 0} (owes : S → List ℕ → Triple) (owed : List ℕ → Triple) (version : Option ℕ) (a : AnsweringState S) (o : Option Outcome) (input sent : List ℕ)
     → SendsAnswers owes owed version a input sent → SendsAnswers owes owed version (record a { outcome = o }) input sent
-sends-faulted owes owed None a o input sent s = record { none = s.none; waits = s.waits; unfed = s.unfed; unended = s.unended; unclosed = s.unclosed; gives = s.gives }
-sends-faulted owes owed (Some version) a o input sent s = record { pieces = s.pieces; each = s.each; gives = gives-faulted owes owed a.code a o input s.pieces s.gives; stream = s.stream; done = s.done }
+sends_faulted owes owed None a o input sent s = record { none = s.none; waits = s.waits; unfed = s.unfed; unended = s.unended; unclosed = s.unclosed; gives = s.gives }
+sends_faulted owes owed (Some version) a o input sent s = record { pieces = s.pieces; each = s.each; gives = gives_faulted owes owed a.code a o input s.pieces s.gives; stream = s.stream; done = s.done }
 
 -- more input was fed
-fed-gives : {S : Type 0} (owes : S → List ℕ → Triple) (owed : List ℕ → Triple) (a b : AnsweringState S) (input bytes : List ℕ) (pieces : List Piece) → Gives owes owed None a input pieces
+fed_gives : {S : Type 0} (owes : S → List ℕ → Triple) (owed : List ℕ → Triple) (a b : AnsweringState S) (input bytes : List ℕ) (pieces : List Piece) → Gives owes owed None a input pieces
     → Feeds (owes a.service) (owes b.service) bytes a.out b.out a.err b.err → Gives owes owed None b (input ++ bytes) pieces
-fed-gives owes owed a b input bytes pieces g f = λ more.
+fed_gives owes owed a b input bytes pieces g f = λ more.
     ap owed (append_assoc input bytes more) ∙ g (bytes ++ more) ∙ ap (λ t. after_outputs (joined Out pieces ++ a.out) (joined Errors pieces ++ a.err) t) (f.owed more)
     ∙ (λ i. record { stdout = both (joined Out pieces) a.out f.stdout b.out (owes b.service more).stdout f.out_grows i; stderr = both (joined Errors pieces) a.err f.stderr b.err (owes b.service more).stderr f.err_grows i; code = (owes b.service more).code })
   where
@@ -57,9 +57,9 @@ fed-gives owes owed a b input bytes pieces g f = λ more.
     both j o s n t is = sym (append_assoc (j ++ o) s t) ∙ ap (λ x. x ++ t) (append_assoc j o s ∙ ap (λ x. j ++ x) (sym is))
 
 -- the input has ended
-ended-gives : {S : Type 0} (owes : S → List ℕ → Triple) (owed : List ℕ → Triple) (a b : AnsweringState S) (code : ℤ) (input : List ℕ) (pieces : List Piece) → Gives owes owed None a input pieces
+ended_gives : {S : Type 0} (owes : S → List ℕ → Triple) (owed : List ℕ → Triple) (a b : AnsweringState S) (code : ℤ) (input : List ℕ) (pieces : List Piece) → Gives owes owed None a input pieces
     → Ends (owes a.service []) code a.out b.out a.err b.err → Gives owes owed (Some code) b (input ++ []) pieces
-ended-gives owes owed a b code input pieces g e =
+ended_gives owes owed a b code input pieces g e =
     g [] ∙ (λ i. record { stdout = both (joined Out pieces) a.out (owes a.service []).stdout b.out e.out_ends i; stderr = both (joined Errors pieces) a.err (owes a.service []).stderr b.err e.err_ends i; code = sym e.code_is i })
   where
     both : (j o t n : List ℕ) → n ≡ o ++ t → (j ++ o) ++ t ≡ j ++ n
@@ -67,9 +67,9 @@ ended-gives owes owed a b code input pieces g e =
 
 -- ---- the first message
 
-hears-first : {S : Type 0} (owes : S → List ℕ → Triple) (owed : List ℕ → Triple) (sent : List ℕ) (old new : AnsweringState S) (m : Message) (at : ℕ)
+hears_first : {S : Type 0} (owes : S → List ℕ → Triple) (owed : List ℕ → Triple) (sent : List ℕ) (old new : AnsweringState S) (m : Message) (at : ℕ)
     → Serves owes owed old sent [] (decided Undecided) → old.outcome ≡ None → AnswersTo owes m at old new → Heard owes owed sent [] (placed_at at m) new
-hears-first {S} owes owed sent old new m at k none (Greets unversioned is) = subst Is (sym is) (by_greeted (greeted-any old.own m))
+hears_first {S} owes owed sent old new m at k none (Greets unversioned is) = subst Is (sym is) (by_greeted (greeted_any old.own m))
   where
     Is : AnsweringState S → Type 0
     Is x = Heard owes owed sent [] (placed_at at m) x
@@ -107,11 +107,11 @@ hears-first {S} owes owed sent old new m at k none (Greets unversioned is) = sub
         let seen : sees_all serving_use (placed_at at m ∷ rest) ending ≡ decided (Faulty (fault.Hello f)) = rw two refl in
         let agreed : None ≡ agreed_by old.own (placed_at at m ∷ rest) = rw refuses refl in
         let P : Seen → Type 0 = λ x. Serves owes owed (faulted (fault.Hello f) old) sent (placed_at at m ∷ rest) x in
-        subst P (sym seen) (record { outcome = refl; ended = k.ended; version = version ∙ agreed; sends = sends-faulted owes owed old.version old (Some (outcome.Fault (fault.Hello f))) [] sent k.sends })))
-hears-first owes owed sent old new m at k none (Stray some stray is) = absurd (none-is old.version k.version some)
-hears-first owes owed sent old new m at k none (Late some bytes m_is ended is) = absurd (none-is old.version k.version some)
-hears-first owes owed sent old new m at k none (Fed some bytes m_is more unended feeds) = absurd (none-is old.version k.version some)
-hears-first owes owed sent old new m at k none (Ended some m_is unended ends) = absurd (none-is old.version k.version some)
+        subst P (sym seen) (record { outcome = refl; ended = k.ended; version = version ∙ agreed; sends = sends_faulted owes owed old.version old (Some (outcome.Fault (fault.Hello f))) [] sent k.sends })))
+hears_first owes owed sent old new m at k none (Stray some stray is) = absurd (none_is old.version k.version some)
+hears_first owes owed sent old new m at k none (Late some bytes m_is ended is) = absurd (none_is old.version k.version some)
+hears_first owes owed sent old new m at k none (Fed some bytes m_is more unended feeds) = absurd (none_is old.version k.version some)
+hears_first owes owed sent old new m at k none (Ended some m_is unended ends) = absurd (none_is old.version k.version some)
 
 -- ---- the messages after it
 
@@ -154,7 +154,7 @@ over owes owed sent old q placed m at l f decides = Decides f refl (λ rest endi
     let all : sees_all serving_use ((q ∷ placed) ++ placed_at at m ∷ rest) ending ≡ record { pieces = l.pieces; verdict = Faulty f }
     = s.2 ∙ ap (λ x. behind l.pieces x) d ∙ (λ i. record { pieces = append-nil l.pieces i; verdict = Faulty f }) in
     let P : Seen → Type 0 = λ x. Serves owes owed (faulted f old) sent ((q ∷ placed) ++ placed_at at m ∷ rest) x in
-    subst P (sym all) (record { outcome = refl; ended = l.ended; version = l.greeted ∙ l.agreed (placed ++ placed_at at m ∷ rest); sends = sends-faulted owes owed old.version old (Some (outcome.Fault f)) (joined In l.pieces) sent l.sends }))
+    subst P (sym all) (record { outcome = refl; ended = l.ended; version = l.greeted ∙ l.agreed (placed ++ placed_at at m ∷ rest); sends = sends_faulted owes owed old.version old (Some (outcome.Fault f)) (joined In l.pieces) sent l.sends }))
   where
     behind : List Piece → Seen → Seen
     behind pieces x = record { pieces = pieces ++ x.pieces; verdict = x.verdict }
@@ -163,7 +163,7 @@ unclosed : {S : Type 0} (owes : S → List ℕ → Triple) (owed : List ℕ → 
 unclosed owes owed limit a input sent s none = by_closed a.closed refl
   where
     by_closed : (b : Bool) → a.closed ≡ b → a.closed ≡ false
-    by_closed true is = absurd (none-is a.code none (s.done is).2)
+    by_closed true is = absurd (none_is a.code none (s.done is).2)
     by_closed false is = is
 
 -- the message carries input
@@ -183,28 +183,28 @@ on owes owed sent old q placed m at l bytes m_is unended new own same none shut 
     let I : List ℕ → Type 0 = λ input. SendsAnswers owes owed new.version new input sent in
     GoesOn none shut (subst P (sym all) (record {
       outcome = rw none refl;
-      ended = code ∙ sym (ended-piece In l.pieces piece refl none_ended);
+      ended = code ∙ sym (ended_piece In l.pieces piece refl none_ended);
       version = same ∙ l.greeted ∙ l.agreed (placed ++ placed_at at m ∷ []) ∙ ap (λ n. agreed_by n ((q ∷ placed) ++ placed_at at m ∷ [])) (sym own);
-      sends = subst I (sym (joined-piece In l.pieces piece refl)) sends;
+      sends = subst I (sym (joined_piece In l.pieces piece refl)) sends;
     }))
   where
     behind : List Piece → Seen → Seen
     behind pieces x = record { pieces = pieces ++ x.pieces; verdict = x.verdict }
 
-hears-later : {S : Type 0} (owes : S → List ℕ → Triple) (owed : List ℕ → Triple) (sent : List ℕ) (old new : AnsweringState S) (q : Placed Message) (placed : List (Placed Message)) (m : Message) (at : ℕ)
+hears_later : {S : Type 0} (owes : S → List ℕ → Triple) (owed : List ℕ → Triple) (sent : List ℕ) (old new : AnsweringState S) (q : Placed Message) (placed : List (Placed Message)) (m : Message) (at : ℕ)
     → at < 2 ^ 64 → Later owes owed sent old q placed m at → AnswersTo owes m at old new → Heard owes owed sent (q ∷ placed) (placed_at at m) new
-hears-later owes owed sent old new q placed m at small l (Greets unversioned is) = absurd (not-none old.version l.version l.greeted unversioned)
-hears-later {S} owes owed sent old new q placed m at small l (Stray some stray is) =
+hears_later owes owed sent old new q placed m at small l (Greets unversioned is) = absurd (not_none old.version l.version l.greeted unversioned)
+hears_later {S} owes owed sent old new q placed m at small l (Stray some stray is) =
     let Is : AnsweringState S → Type 0 = λ x. Heard owes owed sent (q ∷ placed) (placed_at at m) x in
     subst Is (sym is) (over owes owed sent old q placed m at l (fault.WrongSide at (number m)) (λ now rest ending same.
-    rw stray (ap (λ n. decided (Faulty (fault.WrongSide n (number m)))) (small-offset at small))))
-hears-later {S} owes owed sent old new q placed m at small l (Late some bytes m_is ended is) =
+    rw stray (ap (λ n. decided (Faulty (fault.WrongSide n (number m)))) (small_offset at small))))
+hears_later {S} owes owed sent old new q placed m at small l (Late some bytes m_is ended is) =
     let Is : AnsweringState S → Type 0 = λ x. Heard owes owed sent (q ∷ placed) (placed_at at m) x in
     let carries : serving_use m ≡ Carries (record { stream = In; bytes = bytes }) = ap serving_use m_is in
     subst Is (sym is) (over owes owed sent old q placed m at l (fault.AfterEnd at (number m)) (λ now rest ending same.
     let over_now : has_ended In now ≡ true = same ∙ sym l.ended ∙ ended in
-    rw (carries, over_now) (ap (λ n. decided (Faulty (fault.AfterEnd n (number m)))) (small-offset at small))))
-hears-later {S} owes owed sent old new q placed m at small l (Fed some bytes m_is more unended feeds) =
+    rw (carries, over_now) (ap (λ n. decided (Faulty (fault.AfterEnd n (number m)))) (small_offset at small))))
+hears_later {S} owes owed sent old new q placed m at small l (Fed some bytes m_is more unended feeds) =
     let fed : AnsweringState S = record old { service = new.service; out = new.out; err = new.err } in
     let Is : AnsweringState S → Type 0 = λ x. Heard owes owed sent (q ∷ placed) (placed_at at m) x in
     let V : Option ℕ → Type 0 = λ v. SendsAnswers owes owed v old (joined In l.pieces) sent in
@@ -216,12 +216,12 @@ hears-later {S} owes owed sent old new q placed m at small l (Fed some bytes m_i
     let sends : SendsOutputs owes owed (min old.chunk (most l.version)) fed (joined In l.pieces ++ bytes) sent = record {
       pieces = s.pieces;
       each = s.each;
-      gives = subst H (sym unended) (fed-gives owes owed old fed (joined In l.pieces) bytes s.pieces (subst G unended s.gives) feeds.feeds);
+      gives = subst H (sym unended) (fed_gives owes owed old fed (joined In l.pieces) bytes s.pieces (subst G unended s.gives) feeds.feeds);
       stream = s.stream;
       done = λ closed. let no : false ≡ true = sym shut ∙ closed in cc;
     } in
     subst Is (sym feeds.rest) (on owes owed sent old q placed m at l bytes m_is unended fed refl refl l.undecided shut (rw unended (sym (has_bytes bytes more))) (subst W (sym l.greeted) sends))
-hears-later {S} owes owed sent old new q placed m at small l (Ended some m_is unended ends) =
+hears_later {S} owes owed sent old new q placed m at small l (Ended some m_is unended ends) =
     let done : AnsweringState S = record old { service = new.service; code = Some ends.code; out = new.out; err = new.err } in
     let Is : AnsweringState S → Type 0 = λ x. Heard owes owed sent (q ∷ placed) (placed_at at m) x in
     let V : Option ℕ → Type 0 = λ v. SendsAnswers owes owed v old (joined In l.pieces) sent in
@@ -235,7 +235,7 @@ hears-later {S} owes owed sent old new q placed m at small l (Ended some m_is un
     let sends : SendsOutputs owes owed (min old.chunk (most l.version)) done (joined In l.pieces ++ []) sent = record {
       pieces = s.pieces;
       each = s.each;
-      gives = ended-gives owes owed old done ends.code (joined In l.pieces) s.pieces (subst G unended s.gives) ends.ends;
+      gives = ended_gives owes owed old done ends.code (joined In l.pieces) s.pieces (subst G unended s.gives) ends.ends;
       stream = before ∙ ap (λ e. flat_map written (Hello old.own ∷ (map message_of s.pieces ++ e))) (none_before ∙ sym none_after);
       done = λ closed. let no : false ≡ true = sym shut ∙ closed in cc;
     } in
@@ -243,5 +243,5 @@ hears-later {S} owes owed sent old new q placed m at small l (Ended some m_is un
 
 pub hears : {S : Type 0} (owes : S → List ℕ → Triple) (owed : List ℕ → Triple) (sent : List ℕ) (old new : AnsweringState S) (placed : List (Placed Message)) (m : Message) (at : ℕ)
     → at < 2 ^ 64 → Serves owes owed old sent placed (sees_all serving_use placed (Rest 0)) → old.outcome ≡ None → AnswersTo owes m at old new → Heard owes owed sent placed (placed_at at m) new
-hears owes owed sent old new [] m at small k none step = hears-first owes owed sent old new m at k none step
-hears owes owed sent old new (q ∷ placed) m at small k none step = hears-later owes owed sent old new q placed m at small (later owes owed sent old q placed m at k none) step
+hears owes owed sent old new [] m at small k none step = hears_first owes owed sent old new m at k none step
+hears owes owed sent old new (q ∷ placed) m at small k none step = hears_later owes owed sent old new q placed m at small (later owes owed sent old q placed m at k none) step

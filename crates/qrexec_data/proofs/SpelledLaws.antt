@@ -11,34 +11,34 @@ use Rattle.qrexec_data.specs.Pieces.{Stream, In, Out, Err, Piece, message_of, Ar
 abbrev pub spelled : List Piece → List ℕ
 spelled pieces = flat_map written (map message_of pieces)
 
-pub spelled-one : (pieces : List Piece) (p : Piece) → spelled (pieces ++ p ∷ []) ≡ spelled pieces ++ written (message_of p)
-spelled-one [] p = append-nil (written (message_of p))
-spelled-one (q ∷ pieces) p = ap (λ r. written (message_of q) ++ r) (spelled-one pieces p) ∙ sym (append_assoc (written (message_of q)) (spelled pieces) (written (message_of p)))
+pub spelled_one : (pieces : List Piece) (p : Piece) → spelled (pieces ++ p ∷ []) ≡ spelled pieces ++ written (message_of p)
+spelled_one [] p = append-nil (written (message_of p))
+spelled_one (q ∷ pieces) p = ap (λ r. written (message_of q) ++ r) (spelled_one pieces p) ∙ sym (append_assoc (written (message_of q)) (spelled pieces) (written (message_of p)))
 
 -- one piece more, after what waits
-pub spelled-behind : (head sent waiting : List ℕ) (pieces : List Piece) (p : Piece) → sent ++ waiting ≡ head ++ spelled pieces
+pub spelled_behind : (head sent waiting : List ℕ) (pieces : List Piece) (p : Piece) → sent ++ waiting ≡ head ++ spelled pieces
     → sent ++ (waiting ++ written (message_of p)) ≡ head ++ spelled (pieces ++ p ∷ [])
-spelled-behind head sent waiting pieces p is =
+spelled_behind head sent waiting pieces p is =
     sym (append_assoc sent waiting (written (message_of p))) ∙ ap (λ r. r ++ written (message_of p)) is ∙ append_assoc head (spelled pieces) (written (message_of p))
-    ∙ ap (λ r. head ++ r) (sym (spelled-one pieces p))
+    ∙ ap (λ r. head ++ r) (sym (spelled_one pieces p))
 
-pub each-one : (reads : Stream → Bool) (limit : ℕ) (pieces : List Piece) (p : Piece) → ArePieces reads limit pieces → ArePieces reads limit (p ∷ []) → ArePieces reads limit (pieces ++ p ∷ [])
-each-one reads limit [] p each one = one
-each-one reads limit (q ∷ pieces) p each one = (each.0, each-one reads limit pieces p each.1 one)
+pub each_one : (reads : Stream → Bool) (limit : ℕ) (pieces : List Piece) (p : Piece) → ArePieces reads limit pieces → ArePieces reads limit (p ∷ []) → ArePieces reads limit (pieces ++ p ∷ [])
+each_one reads limit [] p each one = one
+each_one reads limit (q ∷ pieces) p each one = (each.0, each_one reads limit pieces p each.1 one)
 
 -- what has gone and what waits, after some of what waited has gone
-pub gone-on : (sent waiting : List ℕ) (count : ℕ) → (sent ++ take count waiting) ++ drop count waiting ≡ sent ++ waiting
-gone-on sent waiting count = append_assoc sent (take count waiting) (drop count waiting) ∙ ap (λ r. sent ++ r) (take-append-drop count waiting)
+pub gone_on : (sent waiting : List ℕ) (count : ℕ) → (sent ++ take count waiting) ++ drop count waiting ≡ sent ++ waiting
+gone_on sent waiting count = append_assoc sent (take count waiting) (drop count waiting) ∙ ap (λ r. sent ++ r) (take-append-drop count waiting)
 
 -- a beginning of a list, and then the next few
-pub take-more : (xs : List ℕ) (n k : ℕ) → n ≤ length xs → take n xs ++ take k (drop n xs) ≡ take (n + k) xs
-take-more xs n k within =
+pub take_more : (xs : List ℕ) (n k : ℕ) → n ≤ length xs → take n xs ++ take k (drop n xs) ≡ take (n + k) xs
+take_more xs n k within =
     let size : length (take n xs) ≡ n = length-take-le n xs within in
     sym (take-append-add (take n xs) (drop n xs) k) ∙ rw (size, take-append-drop n xs) refl
 
 -- bytes that were written are some
-pub written-some : (p : Piece) → 0 < length (written (message_of p))
-written-some p = by_stream p.stream p.bytes
+pub written_some : (p : Piece) → 0 < length (written (message_of p))
+written_some p = by_stream p.stream p.bytes
   where
     by_stream : (s : Stream) (bytes : List ℕ) → 0 < length (written (message_of (record { stream = s; bytes = bytes })))
     by_stream In bytes = omega arith

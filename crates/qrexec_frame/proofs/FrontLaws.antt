@@ -15,62 +15,62 @@ use Rattle.qrexec_frame.specs.Streams.{Front, Whole, Bad, Short}
 abbrev pub IsEnded : Kind → List ℕ → Type 0
 IsEnded kind body = (has_line kind ≡ false) ⊎ (last_byte body ≡ 0)
 
-pub front-no_header : (channel : Channel) (bytes : List ℕ) → length bytes < 8 → front channel bytes ≡ Short
+pub front_no_header : (channel : Channel) (bytes : List ℕ) → length bytes < 8 → front channel bytes ≡ Short
 unfolding front
-front-no_header channel bytes less = rw (lt-ltb (length bytes) 8 less) refl
+front_no_header channel bytes less = rw (lt-ltb (length bytes) 8 less) refl
 
-pub front-no_type : (channel : Channel) (bytes : List ℕ) → 8 ≤ length bytes → kind_on channel (number_at 0 bytes) ≡ None → front channel bytes ≡ Bad (UnknownType (number_at 0 bytes))
+pub front_no_type : (channel : Channel) (bytes : List ℕ) → 8 ≤ length bytes → kind_on channel (number_at 0 bytes) ≡ None → front channel bytes ≡ Bad (UnknownType (number_at 0 bytes))
 unfolding front
-front-no_type channel bytes there none = rw (le-ltb (length bytes) 8 there, none) refl
+front_no_type channel bytes there none = rw (le-ltb (length bytes) 8 there, none) refl
 
 -- with a header, what is at the front goes by its type
-front-header : (channel : Channel) (bytes : List ℕ) (number len : ℕ) (kind : Kind) → HasHeader channel bytes number len kind → front channel bytes ≡ with_header (Some kind) number len bytes
+front_header : (channel : Channel) (bytes : List ℕ) (number len : ℕ) (kind : Kind) → HasHeader channel bytes number len kind → front channel bytes ≡ with_header (Some kind) number len bytes
 unfolding front
-front-header channel bytes number len kind header =
+front_header channel bytes number len kind header =
     let is : kind_on channel (number_at 0 bytes) ≡ Some kind = ap (kind_on channel) (sym header.number_is) ∙ header.kind_is in
     rw (le-ltb (length bytes) 8 header.there, is, ← header.number_is, ← header.len_is) refl
 
-pub front-too_long : (channel : Channel) (bytes : List ℕ) (number len : ℕ) (kind : Kind) → HasHeader channel bytes number len kind → 65536 < len → front channel bytes ≡ Bad (TooLong number len)
-front-too_long channel bytes number len kind header long = front-header channel bytes number len kind header ∙ rw (lt-ltb 65536 len long) refl
+pub front_too_long : (channel : Channel) (bytes : List ℕ) (number len : ℕ) (kind : Kind) → HasHeader channel bytes number len kind → 65536 < len → front channel bytes ≡ Bad (TooLong number len)
+front_too_long channel bytes number len kind header long = front_header channel bytes number len kind header ∙ rw (lt-ltb 65536 len long) refl
 
-pub front-bad_length : (channel : Channel) (bytes : List ℕ) (number len : ℕ) (kind : Kind) → HasHeader channel bytes number len kind → len ≤ 65536 → ((len < least_len kind) ⊎ (most_len kind < len))
+pub front_bad_length : (channel : Channel) (bytes : List ℕ) (number len : ℕ) (kind : Kind) → HasHeader channel bytes number len kind → len ≤ 65536 → ((len < least_len kind) ⊎ (most_len kind < len))
     → front channel bytes ≡ Bad (BadLength number len)
-front-bad_length channel bytes number len kind header short (inl less) =
-    front-header channel bytes number len kind header ∙ rw (le-ltb 65536 len short, lt-ltb len (least_len kind) less) refl
-front-bad_length channel bytes number len kind header short (inr more) = front-header channel bytes number len kind header ∙ by_least (cases_lt len (least_len kind))
+front_bad_length channel bytes number len kind header short (inl less) =
+    front_header channel bytes number len kind header ∙ rw (le-ltb 65536 len short, lt-ltb len (least_len kind) less) refl
+front_bad_length channel bytes number len kind header short (inr more) = front_header channel bytes number len kind header ∙ by_least (cases_lt len (least_len kind))
   where
     by_least : ((len < least_len kind) ⊎ (least_len kind ≤ len)) → with_header (Some kind) number len bytes ≡ Bad (BadLength number len)
     by_least (inl less) = rw (le-ltb 65536 len short, lt-ltb len (least_len kind) less) refl
     by_least (inr least) = rw (le-ltb 65536 len short, le-ltb len (least_len kind) least, lt-ltb (most_len kind) len more) refl
 
 -- a length in the range leaves the body
-with_header-in_range : (bytes : List ℕ) (number len : ℕ) (kind : Kind) → IsInRange kind len
+with_header_in_range : (bytes : List ℕ) (number len : ℕ) (kind : Kind) → IsInRange kind len
     → with_header (Some kind) number len bytes ≡ cond (nat_lt (length bytes) (8 + len)) Short (with_body kind number (take len (drop 8 bytes)))
-with_header-in_range bytes number len kind range =
+with_header_in_range bytes number len kind range =
     rw (le-ltb 65536 len range.short, le-ltb len (least_len kind) range.least, le-ltb (most_len kind) len range.most) refl
 
-pub front-no_body : (channel : Channel) (bytes : List ℕ) (number len : ℕ) (kind : Kind) → HasHeader channel bytes number len kind → IsInRange kind len → length bytes < 8 + len → front channel bytes ≡ Short
-front-no_body channel bytes number len kind header range less =
-    front-header channel bytes number len kind header ∙ with_header-in_range bytes number len kind range ∙ rw (lt-ltb (length bytes) (8 + len) less) refl
+pub front_no_body : (channel : Channel) (bytes : List ℕ) (number len : ℕ) (kind : Kind) → HasHeader channel bytes number len kind → IsInRange kind len → length bytes < 8 + len → front channel bytes ≡ Short
+front_no_body channel bytes number len kind header range less =
+    front_header channel bytes number len kind header ∙ with_header_in_range bytes number len kind range ∙ rw (lt-ltb (length bytes) (8 + len) less) refl
 
-front-body : (channel : Channel) (bytes : List ℕ) (number len : ℕ) (kind : Kind) → HasHeader channel bytes number len kind → IsInRange kind len → 8 + len ≤ length bytes
+front_body : (channel : Channel) (bytes : List ℕ) (number len : ℕ) (kind : Kind) → HasHeader channel bytes number len kind → IsInRange kind len → 8 + len ≤ length bytes
     → front channel bytes ≡ with_body kind number (take len (drop 8 bytes))
-front-body channel bytes number len kind header range there =
-    front-header channel bytes number len kind header ∙ with_header-in_range bytes number len kind range ∙ rw (le-ltb (length bytes) (8 + len) there) refl
+front_body channel bytes number len kind header range there =
+    front_header channel bytes number len kind header ∙ with_header_in_range bytes number len kind range ∙ rw (le-ltb (length bytes) (8 + len) there) refl
 
-pub front-no_nul : (channel : Channel) (bytes : List ℕ) (number len : ℕ) (kind : Kind) → HasHeader channel bytes number len kind → IsInRange kind len → 8 + len ≤ length bytes
+pub front_no_nul : (channel : Channel) (bytes : List ℕ) (number len : ℕ) (kind : Kind) → HasHeader channel bytes number len kind → IsInRange kind len → 8 + len ≤ length bytes
     → has_line kind ≡ true → last_byte (take len (drop 8 bytes)) ≢ 0 → front channel bytes ≡ Bad (NoNul number)
-front-no_nul channel bytes number len kind header range there line unended =
-    front-body channel bytes number len kind header range there ∙ rw (line, ne_eqb (last_byte (take len (drop 8 bytes))) 0 unended) refl
+front_no_nul channel bytes number len kind header range there line unended =
+    front_body channel bytes number len kind header range there ∙ rw (line, ne_eqb (last_byte (take len (drop 8 bytes))) 0 unended) refl
 
 -- the bytes of a whole body
-pub length-body : (bytes : List ℕ) (len : ℕ) → 8 + len ≤ length bytes → length (take len (drop 8 bytes)) ≡ len
-length-body bytes len there = length-take-le len (drop 8 bytes) (omega (arith, length-drop 8 bytes))
+pub length_body : (bytes : List ℕ) (len : ℕ) → 8 + len ≤ length bytes → length (take len (drop 8 bytes)) ≡ len
+length_body bytes len there = length-take-le len (drop 8 bytes) (omega (arith, length-drop 8 bytes))
 
-pub front-whole : (channel : Channel) (bytes : List ℕ) (number len : ℕ) (kind : Kind) → HasHeader channel bytes number len kind → IsInRange kind len → 8 + len ≤ length bytes
+pub front_whole : (channel : Channel) (bytes : List ℕ) (number len : ℕ) (kind : Kind) → HasHeader channel bytes number len kind → IsInRange kind len → 8 + len ≤ length bytes
     → IsEnded kind (take len (drop 8 bytes)) → front channel bytes ≡ Whole (made kind (take len (drop 8 bytes))) (8 + len)
-front-whole channel bytes number len kind header range there ended =
-    front-body channel bytes number len kind header range there ∙ by_end ended ∙ ap sized (length-body bytes len there)
+front_whole channel bytes number len kind header range there ended =
+    front_body channel bytes number len kind header range there ∙ by_end ended ∙ ap sized (length_body bytes len there)
   where
     sized : ℕ → Front Message Fault
     sized n = Whole (made kind (take len (drop 8 bytes))) (8 + n)

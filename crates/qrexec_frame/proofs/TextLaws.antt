@@ -8,8 +8,8 @@ use Rattle.qrexec_frame.specs.Texts.{HasNoNul, FitsText, is_nul, padded, ended, 
 use Rattle.qrexec_frame.specs.Grammar.{last_byte}
 
 -- no byte before the first NUL is NUL
-pub HasNoNul-before_first : (bytes : List ℕ) → HasNoNul (before_first is_nul bytes)
-HasNoNul-before_first bytes = record {
+pub HasNoNul_before_first : (bytes : List ℕ) → HasNoNul (before_first is_nul bytes)
+HasNoNul_before_first bytes = record {
   none = λ found.
       let less : found.0 < position_or_len is_nul bytes = omega (arith, found.1, length-take (position_or_len is_nul bytes) bytes) in
       let fails = fails_before_first is_nul bytes found.0 0 less in
@@ -18,8 +18,8 @@ HasNoNul-before_first bytes = record {
 }
 
 -- a text is what stands before a NUL that follows it
-pub before_first-text : (text more : List ℕ) → HasNoNul text → get_or more 0 0 ≡ 0 → before_first is_nul (text ++ more) ≡ text
-before_first-text text more no_nul nul = rw place (take_at text more (length text) refl)
+pub before_first_text : (text more : List ℕ) → HasNoNul text → get_or more 0 0 ≡ 0 → before_first is_nul (text ++ more) ≡ text
+before_first_text text more no_nul nul = rw place (take_at text more (length text) refl)
   where
     within : length text ≤ length (text ++ more)
     within = omega (arith, length-append text more)
@@ -38,13 +38,13 @@ before_first-text text more no_nul nul = rw place (take_at text more (length tex
     place = position_or_len_is is_nul (text ++ more) (length text) 0 within fails passes
 
 -- a fixed field that a text was padded for says that text
-pub field_text-padded : (front text rest : List ℕ) (start len : ℕ) → length front ≡ start → HasNoNul text → length text < len → field_text start len (front ++ (padded len text ++ rest)) ≡ text
-field_text-padded front text rest start len at no_nul less =
+pub field_text_padded : (front text rest : List ℕ) (start len : ℕ) → length front ≡ start → HasNoNul text → length text < len → field_text start len (front ++ (padded len text ++ rest)) ≡ text
+field_text_padded front text rest start len at no_nul less =
     let here : drop start (front ++ (padded len text ++ rest)) ≡ padded len text ++ rest = drop_at front (padded len text ++ rest) start at in
     let size : length (padded len text) ≡ len = omega (arith, length-append text (replicate (len - length text) 0), length-replicate {A = ℕ} (len - length text) 0) in
     let short : len - 1 ≤ length (padded len text) = omega (arith, size) in
     let cut : take (len - 1) (padded len text ++ rest) ≡ take (len - 1) (padded len text) = take-append-le (len - 1) (padded len text) rest short in
-    rw (here, cut) (rw (cut_padded text len less) (before_first-text text (replicate (len - 1 - length text) 0) no_nul (zeros_begin (len - 1 - length text))))
+    rw (here, cut) (rw (cut_padded text len less) (before_first_text text (replicate (len - 1 - length text) 0) no_nul (zeros_begin (len - 1 - length text))))
   where
     zeros_begin : (n : ℕ) → get_or {A = ℕ} (replicate n 0) 0 0 ≡ 0
     zeros_begin zero = refl
@@ -59,25 +59,25 @@ field_text-padded front text rest start len at no_nul less =
         ap (take (len - 1)) parts ∙ take_at (text ++ replicate (len - 1 - length text) 0) (replicate 1 0) (len - 1) size
 
 -- a line or a service that was ended says its text
-pub line_text-ended : (front text : List ℕ) (start : ℕ) → length front ≡ start → HasNoNul text → line_text start (front ++ ended text) ≡ text
-line_text-ended front text start at no_nul = rw (drop_at front (ended text) start at) (before_first-text text (0 ∷ []) no_nul refl)
+pub line_text_ended : (front text : List ℕ) (start : ℕ) → length front ≡ start → HasNoNul text → line_text start (front ++ ended text) ≡ text
+line_text_ended front text start at no_nul = rw (drop_at front (ended text) start at) (before_first_text text (0 ∷ []) no_nul refl)
 
 -- what ends with a NUL has it as its last byte
-pub last_byte-ended : (front : List ℕ) → last_byte (front ++ 0 ∷ []) ≡ 0
-last_byte-ended front =
+pub last_byte_ended : (front : List ℕ) → last_byte (front ++ 0 ∷ []) ≡ 0
+last_byte_ended front =
     let size : length (front ++ 0 ∷ []) - 1 ≡ length front + 0 = omega (arith, length-append front (0 ∷ [])) in
     ap (λ i. get_or (front ++ 0 ∷ []) i 0) size ∙ get_or-append-add front (0 ∷ []) 0 0
 
 -- the text of a field is shorter than the field
-pub FitsText-field : (start len : ℕ) (body : List ℕ) → FitsText (len - 1) (field_text start len body)
-FitsText-field start len body = record {
+pub FitsText_field : (start len : ℕ) (body : List ℕ) → FitsText (len - 1) (field_text start len body)
+FitsText_field start len body = record {
   within = omega (arith, length-take (position_or_len is_nul (take (len - 1) (drop start body))) (take (len - 1) (drop start body)), length-take (len - 1) (drop start body));
-  no_nul = HasNoNul-before_first (take (len - 1) (drop start body));
+  no_nul = HasNoNul_before_first (take (len - 1) (drop start body));
 }
 
 -- the text of a line that ends with NUL is shorter than what it stands in
-pub FitsText-line : (start most : ℕ) (body : List ℕ) → last_byte body ≡ 0 → start < length body → length body ≤ start + suc most → FitsText most (line_text start body)
-FitsText-line start most body nul some fits = by_place (cases_lt (position_or_len is_nul (drop start body)) (length (drop start body)))
+pub FitsText_line : (start most : ℕ) (body : List ℕ) → last_byte body ≡ 0 → start < length body → length body ≤ start + suc most → FitsText most (line_text start body)
+FitsText_line start most body nul some fits = by_place (cases_lt (position_or_len is_nul (drop start body)) (length (drop start body)))
   where
     size : length (drop start body) ≡ length body - start
     size = length-drop start body
@@ -85,7 +85,7 @@ FitsText-line start most body nul some fits = by_place (cases_lt (position_or_le
     by_place : ((position_or_len is_nul (drop start body) < length (drop start body)) ⊎ (length (drop start body) ≤ position_or_len is_nul (drop start body))) → FitsText most (line_text start body)
     by_place (inl less) = record {
       within = omega (arith, size, length-take (position_or_len is_nul (drop start body)) (drop start body));
-      no_nul = HasNoNul-before_first (drop start body);
+      no_nul = HasNoNul_before_first (drop start body);
     }
     by_place (inr more) =
         let last : start + (length (drop start body) - 1) ≡ length body - 1 = omega (arith, size) in

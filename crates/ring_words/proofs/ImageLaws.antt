@@ -6,7 +6,7 @@ use Rattle.std.proofs.lemmas.List.{get_or-append_right, get_or_append_left, get_
 use Rattle.std.proofs.lemmas.List.Edits.{get_or-between, length-between}
 use Rattle.std.specs.List.{between}
 use Rattle.std.specs.Option.{option_map_or}
-use Rattle.ring_words.proofs.ByteLaws.{byte_of-number_from, byte_of-small}
+use Rattle.ring_words.proofs.ByteLaws.{byte_of_number_from, byte_of_small}
 use Rattle.ring_words.specs.declared.order.Order.{Order}
 use Rattle.ring_words.specs.declared.page.Ring.{Ring}
 use Rattle.ring_words.specs.declared.order.Orders.{Orders}
@@ -16,7 +16,7 @@ use Rattle.ring_words.specs.Page.{index_of, order_of, word_count}
 use Rattle.ring_words.specs.PageWords.{PageWords}
 use Rattle.ring_words.specs.Rings.{number_of, size}
 use Rattle.ring_words.specs.Image.{Field, Piece, bytes_piece, byte_at, byte_of, field_piece, fields, header_shown, image_of, number_from, number_piece, page_shown, pieces, ring_offset, ring_pieces, ring_shown, word_of, AreWithinPage, IsCovered, IsShown, Lays}
-use Rattle.ring_words.proofs.PieceLaws.{covered-append, same_piece, Agrees, AllAgree, AllAgree-append, byte_at-agrees, covered_between, covered_first, covered_second, apart_at, begin_from, covered_below, end_by, get_or-list_by, lay_more, lay_nothing, length-list_by, same_list_by}
+use Rattle.ring_words.proofs.PieceLaws.{covered_append, same_piece, Agrees, AllAgree, AllAgree_append, byte_at_agrees, covered_between, covered_first, covered_second, apart_at, begin_from, covered_below, end_by, get_or_list_by, lay_more, lay_nothing, length_list_by, same_list_by}
 
 -- a field laid after others
 pub lay_field : (page : PageWords) (field : Field) {word : ℕ} {ps : List Piece} {old mid new : List ℕ} → Lays ps old mid → Lays (number_piece field.offset field.bytes word ∷ []) mid new → word ≡ word_of page field.name → end_by ps field.offset ≡ true → Lays (ps ++ field_piece page field ∷ []) old new
@@ -48,11 +48,11 @@ abbrev pub ring_piece : PageWords → Ring → ℕ → Piece
 ring_piece page ring offset = record { offset = offset; count = size (order_of page.orders ring); byte = λ at. byte_of (word_of page (RingByte ring at)) 0 }
 
 -- the piece of a ring that lies in the page, and of one that does not
-ring_pieces-at : (page : PageWords) (ring : Ring) (offset : ℕ) → ring_offset (order_of page.orders ring) ≡ Some offset → ring_pieces page ring ≡ ring_piece page ring offset ∷ []
-ring_pieces-at page ring offset e = ap (λ (o : Option ℕ). option_map_or (λ place. ring_piece page ring place ∷ []) o []) e
+ring_pieces_at : (page : PageWords) (ring : Ring) (offset : ℕ) → ring_offset (order_of page.orders ring) ≡ Some offset → ring_pieces page ring ≡ ring_piece page ring offset ∷ []
+ring_pieces_at page ring offset e = ap (λ (o : Option ℕ). option_map_or (λ place. ring_piece page ring place ∷ []) o []) e
 
-pub ring_pieces-none : (page : PageWords) (ring : Ring) → ring_offset (order_of page.orders ring) ≡ None → ring_pieces page ring ≡ []
-ring_pieces-none page ring e = ap (λ (o : Option ℕ). option_map_or (λ place. ring_piece page ring place ∷ []) o []) e
+pub ring_pieces_none : (page : PageWords) (ring : Ring) → ring_offset (order_of page.orders ring) ≡ None → ring_pieces page ring ≡ []
+ring_pieces_none page ring e = ap (λ (o : Option ℕ). option_map_or (λ place. ring_piece page ring place ∷ []) o []) e
 
 -- where the bytes of a ring are
 data InRing (number at : ℕ) : Type 0 where
@@ -64,7 +64,7 @@ in_ring : (page : PageWords) (ring : Ring) (at : ℕ) → IsCovered (ring_pieces
 in_ring page ring at h = go (placed (order_of page.orders ring))
   where
     one : (offset : ℕ) → ring_offset (order_of page.orders ring) ≡ Some offset → (offset ≤ at) × (at < offset + size (order_of page.orders ring))
-    one offset e = alone (subst (λ (ps : List Piece). IsCovered ps at) (ring_pieces-at page ring offset e) h)
+    one offset e = alone (subst (λ (ps : List Piece). IsCovered ps at) (ring_pieces_at page ring offset e) h)
       where
         alone : ((offset ≤ at) × (at < offset + size (order_of page.orders ring))) ⊎ ⊥ → (offset ≤ at) × (at < offset + size (order_of page.orders ring))
         alone (inl k) = k
@@ -73,7 +73,7 @@ in_ring page ring at h = go (placed (order_of page.orders ring))
     go : Placed (order_of page.orders ring) → InRing (number_of (order_of page.orders ring)) at
     go (small n e s) = in_small n (one 1024 e).0 (omega (arith, (one 1024 e).1, s))
     go (large n e s) = in_large n (one 2048 e).0 (omega (arith, (one 2048 e).1, s))
-    go (away n e) = absurd (subst (λ (ps : List Piece). IsCovered ps at) (ring_pieces-none page ring e) h)
+    go (away n e) = absurd (subst (λ (ps : List Piece). IsCovered ps at) (ring_pieces_none page ring e) h)
 
 -- the two rings have no byte in common
 rings_apart : (page : PageWords) (at : ℕ) → IsCovered (ring_pieces page Left) at → IsCovered (ring_pieces page Right) at → ⊥
@@ -99,7 +99,7 @@ header_pieces page = map (field_piece page) fields
 
 -- nothing of a page lies beyond the image
 covered_within : (page : PageWords) (at : ℕ) → IsCovered (pieces page) at → at < 4096
-covered_within page at h = go (covered-append (header_pieces page ++ ring_pieces page Left) (ring_pieces page Right) at h)
+covered_within page at h = go (covered_append (header_pieces page ++ ring_pieces page Left) (ring_pieces page Right) at h)
   where
     of_ring : (ring : Ring) → InRing (number_of (order_of page.orders ring)) at → at < 4096
     of_ring ring (in_small _ _ l) = omega (arith, l)
@@ -110,7 +110,7 @@ covered_within page at h = go (covered-append (header_pieces page ++ ring_pieces
     of_rest (inr k) = of_ring Left (in_ring page Left at k)
 
     go : IsCovered (header_pieces page ++ ring_pieces page Left) at ⊎ IsCovered (ring_pieces page Right) at → at < 4096
-    go (inl k) = of_rest (covered-append (header_pieces page) (ring_pieces page Left) at k)
+    go (inl k) = of_rest (covered_append (header_pieces page) (ring_pieces page Left) at k)
     go (inr k) = of_ring Right (in_ring page Right at k)
 
 -- a header and two rings laid over zeros are the image
@@ -124,7 +124,7 @@ image_laid page zeros header left new long blank one two three =
     before_left at h k = omega (arith, covered_below (header_pieces page) 24 at refl h, ring_behind page Left at k)
 
     before_right : (at : ℕ) → IsCovered (header_pieces page ++ ring_pieces page Left) at → IsCovered (ring_pieces page Right) at → ⊥
-    before_right at h k = go (covered-append (header_pieces page) (ring_pieces page Left) at h)
+    before_right at h k = go (covered_append (header_pieces page) (ring_pieces page Left) at h)
       where
         go : IsCovered (header_pieces page) at ⊎ IsCovered (ring_pieces page Left) at → ⊥
         go (inl l) = omega (arith, covered_below (header_pieces page) 24 at refl l, ring_behind page Right at k)
@@ -136,9 +136,9 @@ image_laid page zeros header left new long blank one two three =
         (lay_more (header_pieces page) (ring_pieces page Left) zeros header left before_left one two) three
 
 -- a ring's bytes follow its first one
-pub index_of-byte : (orders : Orders) (ring : Ring) (k : ℕ) → index_of orders (RingByte ring k) ≡ index_of orders (RingByte ring 0) + k
-index_of-byte orders Left k = omega arith
-index_of-byte orders Right k = omega arith
+pub index_of_byte : (orders : Orders) (ring : Ring) (k : ℕ) → index_of orders (RingByte ring k) ≡ index_of orders (RingByte ring 0) + k
+index_of_byte orders Left k = omega arith
+index_of_byte orders Right k = omega arith
 
 -- a ring ends within the list of words
 ring_within : (orders : Orders) (ring : Ring) → index_of orders (RingByte ring 0) + size (order_of orders ring) ≤ word_count orders
@@ -148,14 +148,14 @@ ring_within orders Right = omega arith
 -- a ring laid at its place in the page
 pub lay_ring : (page : PageWords) (ring : Ring) (offset first : ℕ) (words old new : List ℕ) → length page.list ≡ word_count page.orders → ring_offset (order_of page.orders ring) ≡ Some offset → first ≡ index_of page.orders (RingByte ring 0) → words ≡ between first (first + size (order_of page.orders ring)) page.list → Lays (bytes_piece offset words ∷ []) old new → Lays (ring_pieces page ring) old new
 lay_ring page ring offset first words old new long e f is laid =
-    subst (λ (ps : List Piece). Lays ps old new) (sym (ring_pieces-at page ring offset e))
+    subst (λ (ps : List Piece). Lays ps old new) (sym (ring_pieces_at page ring offset e))
     (same_piece (bytes_piece offset words) (ring_piece page ring offset) old new refl count byte laid)
   where
     count : length words ≡ size (order_of page.orders ring)
     count = ap length is ∙ length-between page.list first (first + size (order_of page.orders ring)) (omega (arith, ring_within page.orders ring, f, long)) ∙ omega arith
 
     byte : (k : ℕ) → k < size (order_of page.orders ring) → byte_of (get_or words k 0) 0 ≡ byte_of (word_of page (RingByte ring k)) 0
-    byte k h = ap (λ (n : ℕ). byte_of n 0) (ap (λ (l : List ℕ). get_or l k 0) is ∙ get_or-between page.list first (first + size (order_of page.orders ring)) k 0 (omega (arith, h)) ∙ ap (λ (i : ℕ). get_or page.list i 0) (omega (arith, f, index_of-byte page.orders ring k)))
+    byte k h = ap (λ (n : ℕ). byte_of n 0) (ap (λ (l : List ℕ). get_or l k 0) is ∙ get_or-between page.list first (first + size (order_of page.orders ring)) k 0 (omega (arith, h)) ∙ ap (λ (i : ℕ). get_or page.list i 0) (omega (arith, f, index_of_byte page.orders ring k)))
 
 -- a ring that doesn't lie in the page
 pub lay_no_ring : (page : PageWords) (ring : Ring) (old : List ℕ) → ((offset : ℕ) → ring_offset (order_of page.orders ring) ≡ Some offset → ⊥) → Lays (ring_pieces page ring) old old
@@ -164,14 +164,14 @@ lay_no_ring page ring old not = go (placed (order_of page.orders ring))
     go : Placed (order_of page.orders ring) → Lays (ring_pieces page ring) old old
     go (small _ e _) = absurd (not 1024 e)
     go (large _ e _) = absurd (not 2048 e)
-    go (away _ e) = subst (λ (ps : List Piece). Lays ps old old) (sym (ring_pieces-none page ring e)) (lay_nothing old)
+    go (away _ e) = subst (λ (ps : List Piece). Lays ps old old) (sym (ring_pieces_none page ring e)) (lay_nothing old)
 
 -- ---- what an image shows, and its image again
 
 -- a field's bytes make its number
 agree_field : (image : List ℕ) (offset count : ℕ) → offset + count ≤ length image → ((i : ℕ) → get_or image i 0 < 256) → Agrees image (number_piece offset count (number_from (between offset (offset + count) image)))
 agree_field image offset count within fits k h =
-    byte_of-number_from (between offset (offset + count) image) k (λ i. part_fits i)
+    byte_of_number_from (between offset (offset + count) image) k (λ i. part_fits i)
     ∙ get_or-between image offset (offset + count) k 0 (omega (arith, h))
   where
     part_fits : (i : ℕ) → get_or (between offset (offset + count) image) i 0 < 256
@@ -182,40 +182,40 @@ agree_field image offset count within fits k h =
         go (inr g) = rw (get_or_past (between offset (offset + count) image) i 0 (omega (arith, g, length-between image offset (offset + count) within))) (lit< tt)
 
 -- the words of a ring that lies in the page, and of one that doesn't
-pub ring_shown-at : (image : List ℕ) (order : Order) (offset : ℕ) → ring_offset order ≡ Some offset → ring_shown image order ≡ between offset (offset + size order) image
-ring_shown-at image order offset e = ap (λ (o : Option ℕ). option_map_or (λ place. between place (place + size order) image) o (replicate (size order) 0)) e
+pub ring_shown_at : (image : List ℕ) (order : Order) (offset : ℕ) → ring_offset order ≡ Some offset → ring_shown image order ≡ between offset (offset + size order) image
+ring_shown_at image order offset e = ap (λ (o : Option ℕ). option_map_or (λ place. between place (place + size order) image) o (replicate (size order) 0)) e
 
-ring_shown-none : (image : List ℕ) (order : Order) → ring_offset order ≡ None → ring_shown image order ≡ replicate (size order) 0
-ring_shown-none image order e = ap (λ (o : Option ℕ). option_map_or (λ place. between place (place + size order) image) o (replicate (size order) 0)) e
+ring_shown_none : (image : List ℕ) (order : Order) → ring_offset order ≡ None → ring_shown image order ≡ replicate (size order) 0
+ring_shown_none image order e = ap (λ (o : Option ℕ). option_map_or (λ place. between place (place + size order) image) o (replicate (size order) 0)) e
 
 -- a shown ring has as many words as its size
-pub length-ring_shown : (image : List ℕ) (order : Order) → length image ≡ 4096 → length (ring_shown image order) ≡ size order
-length-ring_shown image order long = go (placed order)
+pub length_ring_shown : (image : List ℕ) (order : Order) → length image ≡ 4096 → length (ring_shown image order) ≡ size order
+length_ring_shown image order long = go (placed order)
   where
     at : (offset : ℕ) → ring_offset order ≡ Some offset → offset + size order ≤ 4096 → length (ring_shown image order) ≡ size order
-    at offset e within = ap length (ring_shown-at image order offset e) ∙ length-between image offset (offset + size order) (omega (arith, within, long)) ∙ omega arith
+    at offset e within = ap length (ring_shown_at image order offset e) ∙ length-between image offset (offset + size order) (omega (arith, within, long)) ∙ omega arith
 
     go : Placed order → length (ring_shown image order) ≡ size order
     go (small _ e s) = at 1024 e (omega (arith, s))
     go (large _ e s) = at 2048 e (omega (arith, s))
-    go (away _ e) = ap length (ring_shown-none image order e) ∙ length-replicate (size order) 0
+    go (away _ e) = ap length (ring_shown_none image order e) ∙ length-replicate (size order) 0
 
 -- a shown page has all its words
-pub length-page_shown : (image : List ℕ) (orders : Orders) → length image ≡ 4096 → length (page_shown image orders).list ≡ word_count orders
+pub length_page_shown : (image : List ℕ) (orders : Orders) → length image ≡ 4096 → length (page_shown image orders).list ≡ word_count orders
 unfolding page_shown
-length-page_shown image orders long =
+length_page_shown image orders long =
     length-append (header_shown image ++ ring_shown image orders.left) (ring_shown image orders.right)
-    ∙ omega (arith, length-append (header_shown image) (ring_shown image orders.left), length-ring_shown image orders.left long, length-ring_shown image orders.right long)
+    ∙ omega (arith, length-append (header_shown image) (ring_shown image orders.left), length_ring_shown image orders.left long, length_ring_shown image orders.right long)
 
 -- a word of a shown ring is the one at that place in it
-word_of-shown : (image : List ℕ) (orders : Orders) (ring : Ring) (k : ℕ) → length image ≡ 4096 → k < size (order_of orders ring) → word_of (page_shown image orders) (RingByte ring k) ≡ get_or (ring_shown image (order_of orders ring)) k 0
+word_of_shown : (image : List ℕ) (orders : Orders) (ring : Ring) (k : ℕ) → length image ≡ 4096 → k < size (order_of orders ring) → word_of (page_shown image orders) (RingByte ring k) ≡ get_or (ring_shown image (order_of orders ring)) k 0
 unfolding page_shown
-word_of-shown image orders Left k long h =
-    get_or_append_left (header_shown image ++ ring_shown image orders.left) (ring_shown image orders.right) 0 (14 + k) (omega (arith, length-append (header_shown image) (ring_shown image orders.left), length-ring_shown image orders.left long, h))
+word_of_shown image orders Left k long h =
+    get_or_append_left (header_shown image ++ ring_shown image orders.left) (ring_shown image orders.right) 0 (14 + k) (omega (arith, length-append (header_shown image) (ring_shown image orders.left), length_ring_shown image orders.left long, h))
     ∙ get_or-append_right (header_shown image) (ring_shown image orders.left) 14 (14 + k) 0 refl (omega arith)
     ∙ ap (λ (i : ℕ). get_or (ring_shown image orders.left) i 0) (omega arith)
-word_of-shown image orders Right k long h =
-    get_or-append_right (header_shown image ++ ring_shown image orders.left) (ring_shown image orders.right) (14 + size orders.left) (14 + size orders.left + k) 0 (omega (arith, length-append (header_shown image) (ring_shown image orders.left), length-ring_shown image orders.left long)) (omega arith)
+word_of_shown image orders Right k long h =
+    get_or-append_right (header_shown image ++ ring_shown image orders.left) (ring_shown image orders.right) (14 + size orders.left) (14 + size orders.left + k) 0 (omega (arith, length-append (header_shown image) (ring_shown image orders.left), length_ring_shown image orders.left long)) (omega arith)
     ∙ ap (λ (i : ℕ). get_or (ring_shown image orders.right) i 0) (omega arith)
 
 -- a shown ring agrees with the image
@@ -224,21 +224,21 @@ unfolding page_shown
 agree_ring image orders ring long fits = go (placed (order_of orders ring))
   where
     at : (offset : ℕ) → ring_offset (order_of orders ring) ≡ Some offset → AllAgree image (ring_pieces (page_shown image orders) ring)
-    at offset e = subst (λ (ps : List Piece). AllAgree image ps) (sym (ring_pieces-at (page_shown image orders) ring offset e)) (λ k h. byte k h, tt)
+    at offset e = subst (λ (ps : List Piece). AllAgree image ps) (sym (ring_pieces_at (page_shown image orders) ring offset e)) (λ k h. byte k h, tt)
       where
         word : (k : ℕ) → k < size (order_of orders ring) → word_of (page_shown image orders) (RingByte ring k) ≡ get_or image (offset + k) 0
         word k h =
-            word_of-shown image orders ring k long h
-            ∙ ap (λ (l : List ℕ). get_or l k 0) (ring_shown-at image (order_of orders ring) offset e)
+            word_of_shown image orders ring k long h
+            ∙ ap (λ (l : List ℕ). get_or l k 0) (ring_shown_at image (order_of orders ring) offset e)
             ∙ get_or-between image offset (offset + size (order_of orders ring)) k 0 (omega (arith, h))
 
         byte : (k : ℕ) → k < size (order_of orders ring) → byte_of (word_of (page_shown image orders) (RingByte ring k)) 0 ≡ get_or image (offset + k) 0
-        byte k h = ap (λ (n : ℕ). byte_of n 0) (word k h) ∙ byte_of-small (get_or image (offset + k) 0) (fits (offset + k))
+        byte k h = ap (λ (n : ℕ). byte_of n 0) (word k h) ∙ byte_of_small (get_or image (offset + k) 0) (fits (offset + k))
 
     go : Placed (order_of orders ring) → AllAgree image (ring_pieces (page_shown image orders) ring)
     go (small _ e _) = at 1024 e
     go (large _ e _) = at 2048 e
-    go (away _ e) = subst (λ (ps : List Piece). AllAgree image ps) (sym (ring_pieces-none (page_shown image orders) ring e)) tt
+    go (away _ e) = subst (λ (ps : List Piece). AllAgree image ps) (sym (ring_pieces_none (page_shown image orders) ring e)) tt
 
 -- the fields of a shown page agree with the image
 agree_fields : (image : List ℕ) (orders : Orders) → length image ≡ 4096 → ((i : ℕ) → get_or image i 0 < 256) → AllAgree image (header_pieces (page_shown image orders))
@@ -253,13 +253,13 @@ agree_fields image orders long fits =
 pub shown_again : (image : List ℕ) (orders : Orders) → length image ≡ 4096 → ((i : ℕ) → get_or image i 0 < 256) → (at : ℕ) → IsCovered (pieces (page_shown image orders)) at → get_or (image_of (page_shown image orders)) at 0 ≡ get_or image at 0
 unfolding image_of
 shown_again image orders long fits at h =
-    get_or-list_by (λ i. byte_at (pieces (page_shown image orders)) i 0) 4096 at (covered_within (page_shown image orders) at h)
-    ∙ byte_at-agrees image (pieces (page_shown image orders)) at 0 all h
+    get_or_list_by (λ i. byte_at (pieces (page_shown image orders)) i 0) 4096 at (covered_within (page_shown image orders) at h)
+    ∙ byte_at_agrees image (pieces (page_shown image orders)) at 0 all h
   where
     all : AllAgree image (pieces (page_shown image orders))
     all =
-        AllAgree-append image (header_pieces (page_shown image orders) ++ ring_pieces (page_shown image orders) Left) (ring_pieces (page_shown image orders) Right)
-        (AllAgree-append image (header_pieces (page_shown image orders)) (ring_pieces (page_shown image orders) Left) (agree_fields image orders long fits) (agree_ring image orders Left long fits))
+        AllAgree_append image (header_pieces (page_shown image orders) ++ ring_pieces (page_shown image orders) Left) (ring_pieces (page_shown image orders) Right)
+        (AllAgree_append image (header_pieces (page_shown image orders)) (ring_pieces (page_shown image orders) Left) (agree_fields image orders long fits) (agree_ring image orders Left long fits))
         (agree_ring image orders Right long fits)
 
 -- ---- where something of a page lies
@@ -269,7 +269,7 @@ covered_by_ring : (page : PageWords) (ring : Ring) (at : ℕ) → InRing (number
 covered_by_ring page ring at h = go h (placed (order_of page.orders ring))
   where
     one : (offset : ℕ) → ring_offset (order_of page.orders ring) ≡ Some offset → offset ≤ at → at < offset + size (order_of page.orders ring) → IsCovered (ring_pieces page ring) at
-    one offset e low high = subst (λ (ps : List Piece). IsCovered ps at) (sym (ring_pieces-at page ring offset e)) (inl (low, high))
+    one offset e low high = subst (λ (ps : List Piece). IsCovered ps at) (sym (ring_pieces_at page ring offset e)) (inl (low, high))
 
     go : InRing (number_of (order_of page.orders ring)) at → Placed (order_of page.orders ring) → IsCovered (ring_pieces page ring) at
     go (in_small n l h) (small _ e s) = one 1024 e l (omega (arith, h, s))
@@ -319,7 +319,7 @@ shown_around image orders long fits within at o = go (cases_lt at 4096)
     go : (at < 4096) ⊎ (4096 ≤ at) → get_or (image_of (page_shown image orders)) at 0 ≡ get_or image at 0
     go (inl h) = shown_again image orders long fits at (covered_around (page_shown image orders) at within o h)
     go (inr h) =
-        get_or_past (image_of (page_shown image orders)) at 0 (omega (arith, h, length-list_by (λ i. byte_at (pieces (page_shown image orders)) i 0) 4096))
+        get_or_past (image_of (page_shown image orders)) at 0 (omega (arith, h, length_list_by (λ i. byte_at (pieces (page_shown image orders)) i 0) 4096))
         ∙ sym (get_or_past image at 0 (omega (arith, h, long)))
 
 -- a shown page from a list that is made in three steps

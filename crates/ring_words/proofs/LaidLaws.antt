@@ -4,34 +4,34 @@ use Rattle.std.proofs.lemmas.List.{length-set, length-take, take_more, take_more
 use Rattle.std.proofs.Math.Seq.{drop-cons, set-append_seam}
 use Rattle.ring_words.specs.Laid.{laid, low_bytes}
 
-pub length-laid : (list : List ℕ) (first : ℕ) (values : List ℕ) → length (laid list first values) ≡ length list
-length-laid list first [] = refl
-length-laid list first (value ∷ values) = length-laid (slice_set list first value) (first + 1) values ∙ length-set list first value
+pub length_laid : (list : List ℕ) (first : ℕ) (values : List ℕ) → length (laid list first values) ≡ length list
+length_laid list first [] = refl
+length_laid list first (value ∷ values) = length_laid (slice_set list first value) (first + 1) values ∙ length-set list first value
 
 -- one more value is stored after the others
-pub laid-push : (list : List ℕ) (first : ℕ) (values : List ℕ) (value : ℕ) → laid list first (values ++ value ∷ []) ≡ slice_set (laid list first values) (first + length values) value
-laid-push list first [] value = let same : first ≡ first + 0 = omega arith in ap (λ (k : ℕ). slice_set list k value) same
-laid-push list first (head ∷ values) value =
+pub laid_push : (list : List ℕ) (first : ℕ) (values : List ℕ) (value : ℕ) → laid list first (values ++ value ∷ []) ≡ slice_set (laid list first values) (first + length values) value
+laid_push list first [] value = let same : first ≡ first + 0 = omega arith in ap (λ (k : ℕ). slice_set list k value) same
+laid_push list first (head ∷ values) value =
     let same : first + 1 + length values ≡ first + length (head ∷ values) = omega arith in
-    laid-push (slice_set list first head) (first + 1) values value
+    laid_push (slice_set list first head) (first + 1) values value
     ∙ ap (λ (k : ℕ). slice_set (laid (slice_set list first head) (first + 1) values) k value) same
 
 pub laid_more : (list : List ℕ) (first : ℕ) (values : List ℕ) (i : ℕ) → i < length values →
     laid list first (take (i + 1) values) ≡ slice_set (laid list first (take i values)) (first + i) (slice_index values i)
 laid_more list first values i h =
     let whole : length (take i values) ≡ i = omega (arith, length-take i values) in
-    ap (λ (l : List ℕ). laid list first l) (take_more values i 0 h) ∙ laid-push list first (take i values) (slice_index values i)
+    ap (λ (l : List ℕ). laid list first l) (take_more values i 0 h) ∙ laid_push list first (take i values) (slice_index values i)
     ∙ ap (λ (k : ℕ). slice_set (laid list first (take i values)) (first + k) (slice_index values i)) whole
 
-pub length-low_bytes : (list : List ℕ) (first count : ℕ) → length (low_bytes list first count) ≡ count
-length-low_bytes list first zero = refl
-length-low_bytes list first (suc count) = ap suc (length-low_bytes list (first + 1) count)
+pub length_low_bytes : (list : List ℕ) (first count : ℕ) → length (low_bytes list first count) ≡ count
+length_low_bytes list first zero = refl
+length_low_bytes list first (suc count) = ap suc (length_low_bytes list (first + 1) count)
 
-pub low_bytes-push : (list : List ℕ) (first count : ℕ) → low_bytes list first (suc count) ≡ low_bytes list first count ++ slice_index list (first + count) % 256 ∷ []
-low_bytes-push list first zero = let same : first ≡ first + 0 = omega arith in ap (λ (k : ℕ). slice_index list k % 256 ∷ []) same
-low_bytes-push list first (suc count) =
+pub low_bytes_push : (list : List ℕ) (first count : ℕ) → low_bytes list first (suc count) ≡ low_bytes list first count ++ slice_index list (first + count) % 256 ∷ []
+low_bytes_push list first zero = let same : first ≡ first + 0 = omega arith in ap (λ (k : ℕ). slice_index list k % 256 ∷ []) same
+low_bytes_push list first (suc count) =
     let same : first + 1 + count ≡ first + suc count = omega arith in
-    ap (λ (l : List ℕ). slice_index list first % 256 ∷ l) (low_bytes-push list (first + 1) count)
+    ap (λ (l : List ℕ). slice_index list first % 256 ∷ l) (low_bytes_push list (first + 1) count)
     ∙ ap (λ (k : ℕ). slice_index list first % 256 ∷ (low_bytes list (first + 1) count ++ slice_index list k % 256 ∷ [])) same
 
 -- one more word is loaded into the buffer
@@ -42,10 +42,10 @@ loaded_more list buffer first count h =
     let value = slice_index list (first + count) % 256 in
     let more : suc count ≡ count + 1 = omega arith in
     ap (λ (l : List ℕ). slice_set (bytes ++ l) count value) (drop-cons buffer count 0 h)
-    ∙ ap (λ (k : ℕ). slice_set (bytes ++ get_or buffer count 0 ∷ drop (suc count) buffer) k value) (sym (length-low_bytes list first count))
+    ∙ ap (λ (k : ℕ). slice_set (bytes ++ get_or buffer count 0 ∷ drop (suc count) buffer) k value) (sym (length_low_bytes list first count))
     ∙ set-append_seam bytes (get_or buffer count 0) (drop (suc count) buffer) value
     ∙ sym (append_assoc bytes (value ∷ []) (drop (suc count) buffer))
-    ∙ ap (λ (l : List ℕ). l ++ drop (suc count) buffer) (sym (low_bytes-push list first count))
+    ∙ ap (λ (l : List ℕ). l ++ drop (suc count) buffer) (sym (low_bytes_push list first count))
     ∙ ap (λ (k : ℕ). low_bytes list first k ++ drop k buffer) more
 
 -- values that are laid into a list with room stand between what was before and after them

@@ -1,6 +1,7 @@
 -- Dealing all pages, one after another.
 use Rattle.std.proofs.Common.{◌≡◌, ℕ, suc, ◌+◌, ◌<◌, List, [], ◌∷◌, ◌++◌, length, map, refl, ap, sym, ◌∙◌, subst, arith, zero, take, drop, get_or, Some, None}
 use Rattle.std.proofs.lemmas.List.{take_more}
+use Rattle.std.proofs.lemmas.Option.{none-some}
 use Rattle.vchan_rule.specs.Seated.{SeatedEnd}
 use Rattle.task_duties.specs.declared.place.PagePlace.{PagePlace}
 use Rattle.task_duties.specs.declared.place.PagePlace.TheVariants.{Control, Payload}
@@ -9,96 +10,93 @@ use Rattle.run_pages.specs.declared.deal.Hand.{Hand}
 use Rattle.run_pages.specs.Pages.{PageAt, AreLaid, HasSeats}
 use Rattle.run_pages.specs.Dealt.{Follows, AreDealt, HandsDealt, HaveOrders, IsDealing, controls_in, hands_after}
 use Rattle.scenario_file.specs.Scenario.{Plan as Scenario}
-use Rattle.run_pages.proofs.FollowLaws.{controls-laid, laid-follows}
+use Rattle.run_pages.proofs.FollowLaws.{controls_laid, laid_follows}
 
 -- the next page may be dealt
-pub next-follows : (count : ℕ) (place : PagePlace) (places : List PagePlace) → Follows count (place ∷ places) → Follows count (place ∷ [])
-next-follows count (Control domain) places f = (f.0, tt)
-next-follows count (Payload from to port) places f = (f.0, f.1, f.2, f.3, f.4, tt)
+pub next_follows : (count : ℕ) (place : PagePlace) (places : List PagePlace) → Follows count (place ∷ places) → Follows count (place ∷ [])
+next_follows count (Control domain) places f = (f.0, tt)
+next_follows count (Payload from to port) places f = (f.0, f.1, f.2, f.3, f.4, tt)
 
 -- and then the others follow
-rest-follows : (count : ℕ) (place : PagePlace) (places : List PagePlace) → Follows count (place ∷ places) → Follows (hands_after place count) places
-rest-follows count (Control domain) places f = f.1
-rest-follows count (Payload from to port) places f = f.5
+rest_follows : (count : ℕ) (place : PagePlace) (places : List PagePlace) → Follows count (place ∷ places) → Follows (hands_after place count) places
+rest_follows count (Control domain) places f = f.1
+rest_follows count (Payload from to port) places f = f.5
 
-rest-count : (count all : ℕ) (place : PagePlace) (places : List PagePlace) → count + controls_in (place ∷ places) ≡ all → hands_after place count + controls_in places ≡ all
-rest-count count all (Control domain) places e = omega (arith, e)
-rest-count count all (Payload from to port) places e = e
+rest_count : (count all : ℕ) (place : PagePlace) (places : List PagePlace) → count + controls_in (place ∷ places) ≡ all → hands_after place count + controls_in places ≡ all
+rest_count count all (Control domain) places e = omega (arith, e)
+rest_count count all (Payload from to port) places e = e
 
-pub dealing-on : (before left : List PageAt) (p : PageAt) (x : PageSeats) (seats : List PageSeats) (controls controls' : List SeatedEnd) (hands hands' : List Hand) (all : ℕ)
+pub dealing_on : (before left : List PageAt) (p : PageAt) (x : PageSeats) (seats : List PageSeats) (controls controls' : List SeatedEnd) (hands hands' : List Hand) (all : ℕ)
     → IsDealing before (p ∷ left) (x ∷ seats) controls hands all → AreDealt (before ++ p ∷ []) controls' hands' → length hands' ≡ hands_after p.place (length hands)
     → IsDealing (before ++ p ∷ []) left seats controls' hands' all
-dealing-on before left p x seats controls controls' hands hands' all d dealt count = record {
+dealing_on before left p x seats controls controls' hands hands' all d dealt count = record {
   dealt = dealt;
-  follows = subst (λ n. Follows n (map (λ p. p.place) left)) (sym count) (rest-follows (length hands) p.place (map (λ p. p.place) left) d.follows);
+  follows = subst (λ n. Follows n (map (λ p. p.place) left)) (sym count) (rest_follows (length hands) p.place (map (λ p. p.place) left) d.follows);
   seated = d.seated.1;
-  count = subst (λ n. n + controls_in (map (λ p. p.place) left) ≡ all) (sym count) (rest-count (length hands) all p.place (map (λ p. p.place) left) d.count);
+  count = subst (λ n. n + controls_in (map (λ p. p.place) left) ≡ all) (sym count) (rest_count (length hands) all p.place (map (λ p. p.place) left) d.count);
 }
 
 -- ---- where the next page stands
 
-pub within-seats : (pages : List PageAt) (k : ℕ) (x : PageSeats) (seats : List PageSeats) → HasSeats (drop k pages) (x ∷ seats) → k < length pages
-within-seats [] k x seats h = absurd (none k h)
+pub within_seats : (pages : List PageAt) (k : ℕ) (x : PageSeats) (seats : List PageSeats) → HasSeats (drop k pages) (x ∷ seats) → k < length pages
+within_seats [] k x seats h = absurd (none k h)
   where
     none : (k : ℕ) → HasSeats (drop k []) (x ∷ seats) → ⊥
     none zero h = h
     none (suc k) h = h
-within-seats (p ∷ pages) zero x seats h = omega arith
-within-seats (p ∷ pages) (suc k) x seats h = omega (arith, within-seats pages k x seats h)
+within_seats (p ∷ pages) zero x seats h = omega arith
+within_seats (p ∷ pages) (suc k) x seats h = omega (arith, within_seats pages k x seats h)
 
-pub drop-next : (pages : List PageAt) (k : ℕ) (p : PageAt) → k < length pages → get_or pages k p ≡ p → drop k pages ≡ p ∷ drop (k + 1) pages
-drop-next [] k p w g = absurd (omega (arith, w))
-drop-next (q ∷ pages) zero p w g = ap (λ x. x ∷ pages) g
-drop-next (q ∷ pages) (suc k) p w g =
+pub drop_next : (pages : List PageAt) (k : ℕ) (p : PageAt) → k < length pages → get_or pages k p ≡ p → drop k pages ≡ p ∷ drop (k + 1) pages
+drop_next [] k p w g = absurd (omega (arith, w))
+drop_next (q ∷ pages) zero p w g = ap (λ x. x ∷ pages) g
+drop_next (q ∷ pages) (suc k) p w g =
     let up : suc (k + 1) ≡ suc k + 1 = omega arith in
-    subst (λ n. drop k pages ≡ p ∷ drop n (q ∷ pages)) up (drop-next pages k p (omega (arith, w)) g)
+    subst (λ n. drop k pages ≡ p ∷ drop n (q ∷ pages)) up (drop_next pages k p (omega (arith, w)) g)
 
-pub get-map : {A B : Type 0} (f : A → B) (xs : List A) (k : ℕ) (x : A) → get_or (map f xs) k (f x) ≡ f (get_or xs k x)
-get-map f [] k x = refl
-get-map f (y ∷ xs) zero x = refl
-get-map f (y ∷ xs) (suc k) x = get-map f xs k x
+pub get_map : {A B : Type 0} (f : A → B) (xs : List A) (k : ℕ) (x : A) → get_or (map f xs) k (f x) ≡ f (get_or xs k x)
+get_map f [] k x = refl
+get_map f (y ∷ xs) zero x = refl
+get_map f (y ∷ xs) (suc k) x = get_map f xs k x
 
 -- what is known before the next page is dealt
 pub record IsNext (pages : List PageAt) (k : ℕ) (p : PageAt) (x : PageSeats) (seats : List PageSeats) (controls : List SeatedEnd) (hands : List Hand) (all : ℕ) : Type 0 where
   pub dealing : IsDealing (take k pages) (p ∷ drop (k + 1) pages) (x ∷ seats) controls hands all
   pub taken : take (k + 1) pages ≡ take k pages ++ p ∷ []
 
-pub is-next : (pages : List PageAt) (k : ℕ) (p : PageAt) (x : PageSeats) (seats all-seats : List PageSeats) (controls : List SeatedEnd) (hands : List Hand) (all : ℕ)
-    → all-seats ≡ x ∷ seats → ((k < length pages) → get_or pages k p ≡ p) → IsDealing (take k pages) (drop k pages) all-seats controls hands all → IsNext pages k p x seats controls hands all
-is-next pages k p x seats all-seats controls hands all is got d =
-    let with-seats = subst (λ l. IsDealing (take k pages) (drop k pages) l controls hands all) is d in
-    let within = within-seats pages k x seats with-seats.seated in
+pub is_next : (pages : List PageAt) (k : ℕ) (p : PageAt) (x : PageSeats) (seats all_seats : List PageSeats) (controls : List SeatedEnd) (hands : List Hand) (all : ℕ)
+    → all_seats ≡ x ∷ seats → ((k < length pages) → get_or pages k p ≡ p) → IsDealing (take k pages) (drop k pages) all_seats controls hands all → IsNext pages k p x seats controls hands all
+is_next pages k p x seats all_seats controls hands all is got d =
+    let with_seats = subst (λ l. IsDealing (take k pages) (drop k pages) l controls hands all) is d in
+    let within = within_seats pages k x seats with_seats.seated in
     record {
-      dealing = subst (λ l. IsDealing (take k pages) l (x ∷ seats) controls hands all) (drop-next pages k p within (got within)) with-seats;
+      dealing = subst (λ l. IsDealing (take k pages) l (x ∷ seats) controls hands all) (drop_next pages k p within (got within)) with_seats;
       taken = take_more pages k p within ∙ ap (λ q. take k pages ++ q ∷ []) (got within);
     }
 
 -- all are dealt if no seats are left
-pub all-dealt : (before left : List PageAt) (controls : List SeatedEnd) (hands : List Hand) (all : ℕ) → IsDealing before left [] controls hands all
+pub all_dealt : (before left : List PageAt) (controls : List SeatedEnd) (hands : List Hand) (all : ℕ) → IsDealing before left [] controls hands all
     → AreDealt before controls hands × (left ≡ []) × (length hands ≡ all)
-all-dealt before [] controls hands all d = (d.dealt, refl, omega (arith, d.count))
-all-dealt before (p ∷ left) controls hands all d = absurd d.seated
+all_dealt before [] controls hands all d = (d.dealt, refl, omega (arith, d.count))
+all_dealt before (p ∷ left) controls hands all d = absurd d.seated
 
-pub take-all : (pages : List PageAt) (k : ℕ) → drop k pages ≡ [] → take k pages ≡ pages
-take-all [] zero e = refl
-take-all [] (suc k) e = refl
-take-all (p ∷ pages) zero e = sym e
-take-all (p ∷ pages) (suc k) e = ap (λ l. p ∷ l) (take-all pages k e)
+pub take_all : (pages : List PageAt) (k : ℕ) → drop k pages ≡ [] → take k pages ≡ pages
+take_all [] zero e = refl
+take_all [] (suc k) e = refl
+take_all (p ∷ pages) zero e = sym e
+take_all (p ∷ pages) (suc k) e = ap (λ l. p ∷ l) (take_all pages k e)
 
 -- nothing is dealt yet
-pub none-dealt : (s : Scenario) (pages : List PageAt) (seats : List PageSeats) → AreLaid s pages → HasSeats pages seats → IsDealing [] pages seats [] [] (length s.domains)
-none-dealt s pages seats laid seated = record {
-  dealt = record { controls_are = refl; hands_are = no-hands; as_many = refl; beyond = λ number far. refl };
-  follows = subst (Follows 0) (sym laid.places) (laid-follows s);
+pub none_dealt : (s : Scenario) (pages : List PageAt) (seats : List PageSeats) → AreLaid s pages → HasSeats pages seats → IsDealing [] pages seats [] [] (length s.domains)
+none_dealt s pages seats laid seated = record {
+  dealt = record { controls_are = refl; hands_are = no_hands; as_many = refl; beyond = λ number far. refl };
+  follows = subst (Follows 0) (sym laid.places) (laid_follows s);
   seated = seated;
-  count = omega (arith, ap controls_in laid.places, controls-laid s);
+  count = omega (arith, ap controls_in laid.places, controls_laid s);
 }
   where
-    no-hands : HandsDealt [] []
-    no-hands k hand is = absurd (none-some is)
-      where
-        none-some : None ≡ Some hand → ⊥
-        none-some e = cc
+    no_hands : HandsDealt [] []
+    no_hands k hand is = absurd (none-some hand is)
 
-pub none-ordered : (s : Scenario) → HaveOrders s []
-none-ordered s k hand is = absurd (let e : None ≡ Some hand = is in cc)
+pub none_ordered : (s : Scenario) → HaveOrders s []
+none_ordered s k hand is = absurd (none-some hand is)

@@ -10,15 +10,15 @@ use Rattle.run_pages.specs.declared.deal.Hand.{Hand}
 use Rattle.run_pages.specs.Dealt.{FitsDomain, HasOrders, IsLaidWith}
 
 -- an end that fits a hostile domain is one of a page that is laid
-end-laid : (s : Scenario) (domain : ℕ) (e : DataEnd) → hostile_at s domain ≡ true → (end : UnusedEnd) → e.end ≡ end → FitsDomain s domain end → IsLaidWith s.payload e
-end-laid s domain e hostile (unused.Laid end) is fits = record { end = end; is = is; orders_are = fits }
-end-laid s domain e hostile (unused.Server side) is fits = absurd (let both : true ≡ false = sym hostile ∙ fits in cc)
-end-laid s domain e hostile (unused.Client side) is fits = absurd (let both : true ≡ false = sym hostile ∙ fits in cc)
+end_laid : (s : Scenario) (domain : ℕ) (e : DataEnd) → hostile_at s domain ≡ true → (end : UnusedEnd) → e.end ≡ end → FitsDomain s domain end → IsLaidWith s.payload e
+end_laid s domain e hostile (unused.Laid end) is fits = record { end = end; is = is; orders_are = fits }
+end_laid s domain e hostile (unused.Server side) is fits = absurd (let both : true ≡ false = sym hostile ∙ fits in cc)
+end_laid s domain e hostile (unused.Client side) is fits = absurd (let both : true ≡ false = sym hostile ∙ fits in cc)
 
 -- so are all data ends of its hand
-pub all-laid : (s : Scenario) (domain : ℕ) (hand : Hand) → hostile_at s domain ≡ true → HasOrders s domain hand → Each (IsLaidWith s.payload) hand.payload.items
-all-laid s domain hand hostile has = each hand.payload.items has.of_payload
+pub all_laid : (s : Scenario) (domain : ℕ) (hand : Hand) → hostile_at s domain ≡ true → HasOrders s domain hand → Each (IsLaidWith s.payload) hand.payload.items
+all_laid s domain hand hostile has = each hand.payload.items has.of_payload
   where
     each : (ends : List DataEnd) → Each (λ e. FitsDomain s domain e.end) ends → Each (IsLaidWith s.payload) ends
     each [] fits = tt
-    each (e ∷ ends) fits = (end-laid s domain e hostile e.end refl fits.0, each ends fits.1)
+    each (e ∷ ends) fits = (end_laid s domain e hostile e.end refl fits.0, each ends fits.1)

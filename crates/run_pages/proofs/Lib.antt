@@ -1,6 +1,5 @@
 pub mod NumberLaws
 pub mod RouteLaws
-pub mod ListLaws
 pub mod DealLaws
 pub mod LayLaws
 pub mod SettleLaws

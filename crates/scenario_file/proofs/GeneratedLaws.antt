@@ -19,82 +19,82 @@ use Rattle.scenario_file.specs.Generator.{fill, generated_names, generated_servi
 abbrev pub made_domains : List Domain
 made_domains = map generated_domain generated_names
 
-pub names-fit : (k : ℕ) → k < 4 → is_name (text_at generated_names k) ≡ true
-names-fit zero h = refl
-names-fit (suc zero) h = refl
-names-fit (suc (suc zero)) h = refl
-names-fit (suc (suc (suc zero))) h = refl
-names-fit (suc (suc (suc (suc k)))) h = absurd (omega (arith, h))
+pub names_fit : (k : ℕ) → k < 4 → is_name (text_at generated_names k) ≡ true
+names_fit zero h = refl
+names_fit (suc zero) h = refl
+names_fit (suc (suc zero)) h = refl
+names_fit (suc (suc (suc zero))) h = refl
+names_fit (suc (suc (suc (suc k)))) h = absurd (omega (arith, h))
 
-pub services-fit : (k : ℕ) → k < 6 → is_service (text_at generated_services k) ≡ true
-services-fit zero h = refl
-services-fit (suc zero) h = refl
-services-fit (suc (suc zero)) h = refl
-services-fit (suc (suc (suc zero))) h = refl
-services-fit (suc (suc (suc (suc zero)))) h = refl
-services-fit (suc (suc (suc (suc (suc zero))))) h = refl
-services-fit (suc (suc (suc (suc (suc (suc k)))))) h = absurd (omega (arith, h))
+pub services_fit : (k : ℕ) → k < 6 → is_service (text_at generated_services k) ≡ true
+services_fit zero h = refl
+services_fit (suc zero) h = refl
+services_fit (suc (suc zero)) h = refl
+services_fit (suc (suc (suc zero))) h = refl
+services_fit (suc (suc (suc (suc zero)))) h = refl
+services_fit (suc (suc (suc (suc (suc zero))))) h = refl
+services_fit (suc (suc (suc (suc (suc (suc k)))))) h = absurd (omega (arith, h))
 
-places-honest : (k : ℕ) → k < 4 → IsHonest made_domains (k + 1)
-places-honest zero h = refl
-places-honest (suc zero) h = refl
-places-honest (suc (suc zero)) h = refl
-places-honest (suc (suc (suc zero))) h = refl
-places-honest (suc (suc (suc (suc k)))) h = absurd (omega (arith, h))
+places_honest : (k : ℕ) → k < 4 → IsHonest made_domains (k + 1)
+places_honest zero h = refl
+places_honest (suc zero) h = refl
+places_honest (suc (suc zero)) h = refl
+places_honest (suc (suc (suc zero))) h = refl
+places_honest (suc (suc (suc (suc k)))) h = absurd (omega (arith, h))
 
-pub other-within : (caller number : ℕ) → number < 3 → other_place caller number < 4
-other-within caller number h = grind (arith, nat_tests)
+pub other_within : (caller number : ℕ) → number < 3 → other_place caller number < 4
+other_within caller number h = grind (arith, nat_tests)
 
 pub length_fill : (count : ℕ) → length (fill count) ≡ count
 unfolding fill
 length_fill count = length-map-range_with_len (λ i. i % 251) 0 count
 
-call-fits : (number caller target service stdin : ℕ) → number < 2 ^ 32 → CallFits made_domains (generated_call number caller target service stdin)
-call-fits number caller target service stdin small = record {
+call_fits : (number caller target service stdin : ℕ) → number < 2 ^ 32 → CallFits made_domains (generated_call number caller target service stdin)
+call_fits number caller target service stdin small = record {
   number = small;
-  caller = places-honest (caller % 4) (omega arith);
-  target = names-fit (other_place (caller % 4) (target % 3)) (other-within (caller % 4) (target % 3) (omega arith));
-  service = services-fit (service % 6) (omega arith);
+  caller = places_honest (caller % 4) (omega arith);
+  target = names_fit (other_place (caller % 4) (target % 3)) (other_within (caller % 4) (target % 3) (omega arith));
+  service = services_fit (service % 6) (omega arith);
   stdin = omega (arith, length_fill (stdin % 2049));
 }
 
-calls-fit : (number x count : ℕ) → number + count ≤ 2 ^ 32 → All (CallFits made_domains) (generated_calls number x count)
+calls_fit_lem : (number x count : ℕ) → number + count ≤ 2 ^ 32 → All (CallFits made_domains) (generated_calls number x count)
 unfolding generated_calls
-calls-fit number x zero few = All-nil (CallFits made_domains)
-calls-fit number x (suc count) few = All-cons (CallFits made_domains) (call_from number x) (generated_calls (number + 1) (after_call x) count) (call-fits number _ _ _ _ (omega (arith, few))) (calls-fit (number + 1) (after_call x) count (omega (arith, few)))
+calls_fit_lem number x zero few = All-nil (CallFits made_domains)
+calls_fit_lem number x (suc count) few = All-cons (CallFits made_domains) (call_from number x) (generated_calls (number + 1) (after_call x) count) (call_fits number _ _ _ _ (omega (arith, few))) (calls_fit_lem (number + 1) (after_call x) count (omega (arith, few)))
 
-length-calls : (number x count : ℕ) → length (generated_calls number x count) ≡ count
+length_calls : (number x count : ℕ) → length (generated_calls number x count) ≡ count
 unfolding generated_calls
-length-calls number x zero = refl
-length-calls number x (suc count) = ap suc (length-calls (number + 1) (after_call x) count)
+length_calls number x zero = refl
+length_calls number x (suc count) = ap suc (length_calls (number + 1) (after_call x) count)
 
 rise : (below number x count : ℕ) → below < number → Rises below (generated_calls number x count)
 unfolding generated_calls
 rise below number x zero h = tt
 rise below number x (suc count) h = (h, rise number (number + 1) (after_call x) count (omega arith))
 
-few-bytes : (number x count : ℕ) → stdin_total (generated_calls number x count) ≤ count * 2048
+few_bytes : (number x count : ℕ) → stdin_total (generated_calls number x count) ≤ count * 2048
 unfolding generated_calls
-few-bytes number x zero = omega arith
-few-bytes number x (suc count) =
-    let more = few-bytes (number + 1) (after_call x) count in
+few_bytes number x zero = omega arith
+few_bytes number x (suc count) =
+    let more = few_bytes (number + 1) (after_call x) count in
     let first = sum_by-cons (λ (call : CallPlan). length call.stdin) (call_from number x) (generated_calls (number + 1) (after_call x) count) in
-    let here = (call-fits' number x) in
+    let here = (call_fits' number x) in
     omega (arith, more, first, here)
   where
-    call-fits' : (number x : ℕ) → length (call_from number x).stdin ≤ 2048
-    call-fits' number x = omega (arith, length_fill ((after_call x) % 2049))
+    call_fits' : (number x : ℕ) → length (call_from number x).stdin ≤ 2048
+    call_fits' number x = omega (arith, length_fill ((after_call x) % 2049))
 
-words-are : (orders : Orders) → number_of orders.left ≡ 10 → number_of orders.right ≡ 11 → word_count orders ≡ 3086
+words_are : (orders : Orders) → number_of orders.left ≡ 10 → number_of orders.right ≡ 11 → word_count orders ≡ 3086
 unfolding size
-words-are orders left right = rw (left, right) refl
+words_are orders left right = rw (left, right) refl
 
-domain-fits : (k : ℕ) → k < 4 → DomainFits (generated_domain (text_at generated_names k))
-domain-fits k h = record { name = names-fit k h; numbers = (refl, inr refl); acts = tt }
+domain_fits : (k : ℕ) → k < 4 → DomainFits (generated_domain (text_at generated_names k))
+domain_fits k h = record { name = names_fit k h; numbers = (refl, inr refl); acts = tt }
 
-domains-fit : All DomainFits made_domains
-domains-fit = All-from_recursion DomainFits made_domains
-    (domain-fits 0 (omega arith), (domain-fits 1 (omega arith), (domain-fits 2 (omega arith), (domain-fits 3 (omega arith), tt))))
+domains_fit_lem : All DomainFits made_domains
+domains_fit_lem = All-from_recursion DomainFits made_domains
+    (domain_fits 0 (omega arith), (domain_fits 1 (omega arith), (domain_fits 2 (omega arith), (domain_fits 3 (omega arith), tt))))
 
 -- another name than that of this place
 abbrev Differs : ℕ → Domain → Type 0
@@ -117,16 +117,16 @@ pub generated_is_scenario : (seed calls : ℕ) (orders : Orders) → number_of o
     → IsScenario (record { control = orders; payload = orders; start = 0; domains = made_domains; calls = generated_calls 1 seed calls })
 generated_is_scenario seed calls orders left right few = record {
   few_domains = omega arith;
-  few_calls = omega (arith, length-calls 1 seed calls);
-  domains_fit = domains-fit;
+  few_calls = omega (arith, length_calls 1 seed calls);
+  domains_fit = domains_fit_lem;
   apart = apart;
-  calls_fit = calls-fit 1 seed calls (omega (arith, few));
+  calls_fit = calls_fit_lem 1 seed calls (omega (arith, few));
   rising = rise 0 1 seed calls (omega arith);
-  stdin = omega (arith, few-bytes 1 seed calls);
+  stdin = omega (arith, few_bytes 1 seed calls);
   words =
-      let count = words-are orders left right in
+      let count = words_are orders left right in
       let laid = count_by-le-length (lays_page made_domains) (generated_calls 1 seed calls) in
-      let all = length-calls 1 seed calls in
+      let all = length_calls 1 seed calls in
       rw count (omega (arith, laid, all));
 }
 

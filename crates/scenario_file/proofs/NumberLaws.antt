@@ -8,9 +8,9 @@ abbrev pub IsNumbered : ℕ → List CallPlan → Type 0
 IsNumbered number [] = Unit {0}
 IsNumbered number (call ∷ calls) = (call.number ≡ number) × IsNumbered (number + 1) calls
 
-pub IsNumbered-push : (number : ℕ) (calls : List CallPlan) (call : CallPlan) → IsNumbered number calls → call.number ≡ number + length calls → IsNumbered number (calls ++ call ∷ [])
-IsNumbered-push number [] call h is = (omega (arith, is), tt)
-IsNumbered-push number (first ∷ calls) call h is = (h.0, IsNumbered-push (number + 1) calls call h.1 (omega (arith, is)))
+pub IsNumbered_push : (number : ℕ) (calls : List CallPlan) (call : CallPlan) → IsNumbered number calls → call.number ≡ number + length calls → IsNumbered number (calls ++ call ∷ [])
+IsNumbered_push number [] call h is = (omega (arith, is), tt)
+IsNumbered_push number (first ∷ calls) call h is = (h.0, IsNumbered_push (number + 1) calls call h.1 (omega (arith, is)))
 
 -- numbers one after another rise
 pub rises_numbered : (below number : ℕ) (calls : List CallPlan) → below < number → IsNumbered number calls → Rises below calls

@@ -24,9 +24,9 @@ position_named (x ∷ domains) name = by_name (bytes_eq x.name name) refl (posit
     by_name false is more = rw is (rw (← more) (later_place (position_or_len (λ (domain : Domain). bytes_eq domain.name name) domains) (length domains)))
 
 -- a domain of a name stands within the list
-pub place-within : (o : Option ℕ) (domains : List Domain) (name : List ℕ) → o ≡ place_named domains name → IfSome o (λ place. place < length domains)
-place-within None domains name is = tt
-place-within (Some k) domains name is = within domains k (sym is)
+pub place_within : (o : Option ℕ) (domains : List Domain) (name : List ℕ) → o ≡ place_named domains name → IfSome o (λ place. place < length domains)
+place_within None domains name is = tt
+place_within (Some k) domains name is = within domains k (sym is)
   where
     within : (ds : List Domain) (j : ℕ) → place_named ds name ≡ Some j → j < length ds
     within [] j e = cc

@@ -14,7 +14,7 @@ use Rattle.scenario_file.specs.Scenario.{AreApart, place_named}
 use Rattle.std.proofs.lemmas.List.{length_push}
 use Rattle.scenario_file.specs.declared.place.Section.TheVariants as section
 use Rattle.scenario_file.specs.Checks.{Fault, all_from, key_list, path_of}
-use Rattle.scenario_file.proofs.NumberLaws.{IsNumbered, IsNumbered-push}
+use Rattle.scenario_file.proofs.NumberLaws.{IsNumbered, IsNumbered_push}
 use Rattle.scenario_file.specs.declared.place.Refusal.{Refusal}
 use Rattle.scenario_file.specs.declared.place.Refusal.TheVariants as part
 use Rattle.std.specs.Str.{IsUtf8, is_utf8}
@@ -40,32 +40,32 @@ item_count_seen [] = refl
 item_count_seen (v ∷ vs) = omega (arith, item_count_seen vs)
 
 -- a domain with a new name stays apart from those before
-pub apart-push : (domains : List Domain) (domain : Domain) → AreApart domains → place_named domains domain.name ≡ None → AreApart (domains ++ domain ∷ [])
-apart-push [] domain h none = (All-nil (λ other. bytes_eq domain.name other.name ≡ false), tt)
-apart-push (x ∷ domains) domain h none = by_name (bytes_eq x.name domain.name) refl (place_named domains domain.name) refl none (λ is. apart-push domains domain h.1 is)
+pub apart_push : (domains : List Domain) (domain : Domain) → AreApart domains → place_named domains domain.name ≡ None → AreApart (domains ++ domain ∷ [])
+apart_push [] domain h none = (All-nil (λ other. bytes_eq domain.name other.name ≡ false), tt)
+apart_push (x ∷ domains) domain h none = by_name (bytes_eq x.name domain.name) refl (place_named domains domain.name) refl none (λ is. apart_push domains domain h.1 is)
   where
     by_name : (b : Bool) → bytes_eq x.name domain.name ≡ b → (o : Option ℕ) → place_named domains domain.name ≡ o → place_named (x ∷ domains) domain.name ≡ None
         → (place_named domains domain.name ≡ None → AreApart (domains ++ domain ∷ [])) → AreApart (x ∷ domains ++ domain ∷ [])
-    by_name true is o o-is e more = let e' = rw is at e in absurd (cc e')
-    by_name false is None o-is e more = (All-push (λ other. bytes_eq x.name other.name ≡ false) domains domain h.0 is, more o-is)
-    by_name false is (Some k) o-is e more = let e' = rw (is, o-is) at e in absurd (cc e')
+    by_name true is o o_is e more = let e' = rw is at e in absurd (cc e')
+    by_name false is None o_is e more = (All-push (λ other. bytes_eq x.name other.name ≡ false) domains domain h.0 is, more o_is)
+    by_name false is (Some k) o_is e more = let e' = rw (is, o_is) at e in absurd (cc e')
 
 -- an item that was read, after those before
-pub all_from-next : {A : Type 0} (next : List A → Data → Result A Fault) (before : List A) (vs : List Value) (i : ℕ) (v : Value) (x : A) → i < length vs → v ≡ get_or vs i v
+pub all_from_next : {A : Type 0} (next : List A → Data → Result A Fault) (before : List A) (vs : List Value) (i : ℕ) (v : Value) (x : A) → i < length vs → v ≡ get_or vs i v
     → next before (view v) ≡ Ok x → all_from next before (items_view (drop i vs)) ≡ all_from next (before ++ x ∷ []) (items_view (drop (i + 1) vs))
 unfolding all_from
-all_from-next next before vs i v x within same read = rw (items_view-drop vs i v within, ← same, read) refl
+all_from_next next before vs i v x within same read = rw (items_view-drop vs i v within, ← same, read) refl
 
 -- an item that was refused
-pub all_from-bad : {A : Type 0} (next : List A → Data → Result A Fault) (before : List A) (vs : List Value) (i : ℕ) (v : Value) (fault : Fault) → i < length vs → v ≡ get_or vs i v
+pub all_from_bad : {A : Type 0} (next : List A → Data → Result A Fault) (before : List A) (vs : List Value) (i : ℕ) (v : Value) (fault : Fault) → i < length vs → v ≡ get_or vs i v
     → next before (view v) ≡ Err fault → all_from next before (items_view (drop i vs)) ≡ Err fault
 unfolding all_from
-all_from-bad next before vs i v fault within same read = rw (items_view-drop vs i v within, ← same, read) refl
+all_from_bad next before vs i v fault within same read = rw (items_view-drop vs i v within, ← same, read) refl
 
 -- all items were read
-pub all_from-all : {A : Type 0} (next : List A → Data → Result A Fault) (before : List A) (vs : List Value) (i : ℕ) → length vs ≤ i → all_from next before (items_view (drop i vs)) ≡ Ok before
+pub all_from_all : {A : Type 0} (next : List A → Data → Result A Fault) (before : List A) (vs : List Value) (i : ℕ) → length vs ≤ i → all_from next before (items_view (drop i vs)) ≡ Ok before
 unfolding all_from
-all_from-all next before vs i all = let none : drop i vs ≡ [] = grind (arith, common_steps) in rw none refl
+all_from_all next before vs i all = let none : drop i vs ≡ [] = grind (arith, common_steps) in rw none refl
 
 -- what an item refuses, the list refuses
 pub refused_item : {A B : Type 0} (e : Refusal) (due : Result A Fault) (whole : Result B Fault) → ((fault : Fault) → due ≡ Err fault → whole ≡ Err fault) → IsRefusal e due → IsRefusal e whole
@@ -118,17 +118,17 @@ some_items_full (v ∷ vs) some = refl
 pub item_refused : {A : Type 0} (next : List A → Data → Result A Fault) (before seen : List A) (vs : List Value) (i : ℕ) (v : Value) (all : Result (List A) Fault) (e : Refusal) → i < length vs
     → v ≡ get_or vs i v → seen ≡ before → all_from next before (items_view (drop i vs)) ≡ all → IsRefusal e (next seen (view v)) → IsRefusal e all
 item_refused next before seen vs i v all e within same is so_far h =
-    refused_item e (next seen (view v)) all (λ fault due. sym so_far ∙ all_from-bad next before vs i v fault within same (rw (← is) due)) h
+    refused_item e (next seen (view v)) all (λ fault due. sym so_far ∙ all_from_bad next before vs i v fault within same (rw (← is) due)) h
 
 pub item_read : {A : Type 0} (next : List A → Data → Result A Fault) (before seen after : List A) (vs : List Value) (i : ℕ) (v : Value) (x : A) (all : Result (List A) Fault) → i < length vs
     → v ≡ get_or vs i v → seen ≡ before → after ≡ before ++ x ∷ [] → all_from next before (items_view (drop i vs)) ≡ all → next seen (view v) ≡ Ok x
     → all_from next after (items_view (drop (i + 1) vs)) ≡ all
 item_read next before seen after vs i v x all within same is pushed so_far read =
-    rw pushed (sym (all_from-next next before vs i v x within same (rw (← is) read)) ∙ so_far)
+    rw pushed (sym (all_from_next next before vs i v x within same (rw (← is) read)) ∙ so_far)
 
 pub all_read : {A : Type 0} (next : List A → Data → Result A Fault) (before : List A) (vs : List Value) (i : ℕ) (all : Result (List A) Fault) → length vs ≤ i
     → all_from next before (items_view (drop i vs)) ≡ all → all ≡ Ok before
-all_read next before vs i all over so_far = sym so_far ∙ all_from-all next before vs i over
+all_read next before vs i all over so_far = sym so_far ∙ all_from_all next before vs i over
 
 pub pushed_length : {A : Type 0} (before after : List A) (x : A) (i : ℕ) → after ≡ before ++ x ∷ [] → length before ≡ i → length after ≡ i + 1
 pushed_length before after x i pushed is = rw pushed (length_push before x ∙ ap (λ n. n + 1) is)
@@ -137,7 +137,7 @@ pub pushed_all : {A : Type 0} (P : A → Type 0) (before after : List A) (x : A)
 pushed_all P before after x pushed all here = rw pushed (All-push P before x all here)
 
 pub pushed_apart : (before seen after : List Domain) (x : Domain) → seen ≡ before → after ≡ before ++ x ∷ [] → AreApart before → place_named seen x.name ≡ None → AreApart after
-pushed_apart before seen after x is pushed apart new = rw pushed (apart-push before x apart (rw (← is) new))
+pushed_apart before seen after x is pushed apart new = rw pushed (apart_push before x apart (rw (← is) new))
 
 pub pushed_numbered : (before seen after : List CallPlan) (x : CallPlan) → seen ≡ before → after ≡ before ++ x ∷ [] → IsNumbered 1 before → x.number ≡ length seen + 1 → IsNumbered 1 after
-pushed_numbered before seen after x is pushed numbered new = rw pushed (IsNumbered-push 1 before x numbered (let same = ap length is in omega (arith, new, same)))
+pushed_numbered before seen after x is pushed numbered new = rw pushed (IsNumbered_push 1 before x numbered (let same = ap length is in omega (arith, new, same)))

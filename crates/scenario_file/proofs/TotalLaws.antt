@@ -15,13 +15,13 @@ use Rattle.scenario_file.specs.Tables.{words_with}
 pub two_or_three : (n : ℕ) → 2 ≤ n → n ≤ 3 → (n ≡ 2) ⊎ (n ≡ 3)
 two_or_three n low high = grind arith
 
-pub within-kind : (hostile : Bool) (ports version : ℕ) → NumbersFit hostile ports version → ports ≤ 32
-within-kind false ports version fits = omega (arith, fits.0)
-within-kind true ports version fits = fits.0
+pub within_kind : (hostile : Bool) (ports version : ℕ) → NumbersFit hostile ports version → ports ≤ 32
+within_kind false ports version fits = omega (arith, fits.0)
+within_kind true ports version fits = fits.0
 
 -- no domain has more pages to each other one than 32, and 992 in all
 pub pages_within : (domain : Domain) (others : ℕ) → DomainFits domain → others ≤ 31 → domain.ports * others ≤ 992
-pages_within domain others fits few = mul-le-mul (within-kind (is_some domain.hostile) domain.ports domain.version fits.numbers) few
+pages_within domain others fits few = mul-le-mul (within_kind (is_some domain.hostile) domain.ports domain.version fits.numbers) few
 
 pub domain_fits : (name : List ℕ) (hostile : Option (List Act)) (ports version : ℕ) → is_name name ≡ true → HostileFits hostile → NumbersFit (is_some hostile) ports version
     → DomainFits (record { name = name; hostile = hostile; ports = ports; version = version })

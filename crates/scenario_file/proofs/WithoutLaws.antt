@@ -32,57 +32,57 @@ later x domains name other false is (Some k) h = λ honest'. let here = h honest
 first : (x : Domain) (domains : List Domain) (name : List ℕ) → bytes_eq x.name name ≡ true → LeftNamed (x ∷ domains) name (Some 0)
 first x domains name here = λ honest'. rw (honest', here) refl
 
-pub left-named : (domains : List Domain) (name : List ℕ) → LeftNamed domains name (place_named domains name)
-left-named [] name = refl
-left-named (x ∷ domains) name = by_name (bytes_eq x.name name) refl (left-named domains name)
+pub left_named : (domains : List Domain) (name : List ℕ) → LeftNamed domains name (place_named domains name)
+left_named [] name = refl
+left_named (x ∷ domains) name = by_name (bytes_eq x.name name) refl (left_named domains name)
   where
     by_name : (b : Bool) → bytes_eq x.name name ≡ b → LeftNamed domains name (place_named domains name) → LeftNamed (x ∷ domains) name (if b then Some 0 else option_map suc (place_named domains name))
     by_name true here more = first x domains name here
     by_name false other more = later x domains name other (is_hostile x) refl (place_named domains name) more
 
 -- the domain of an honest place stands at the place that is left
-pub at-left : (domains : List Domain) (k : ℕ) → IsHonestAt domains k → slice_get (honest domains) (left domains k) ≡ slice_get domains k
-at-left [] k h = cc
-at-left (x ∷ domains) zero h = rw h refl
-at-left (x ∷ domains) (suc k) h = by_hostile (is_hostile x) refl (at-left domains k h)
+pub at_left : (domains : List Domain) (k : ℕ) → IsHonestAt domains k → slice_get (honest domains) (left domains k) ≡ slice_get domains k
+at_left [] k h = cc
+at_left (x ∷ domains) zero h = rw h refl
+at_left (x ∷ domains) (suc k) h = by_hostile (is_hostile x) refl (at_left domains k h)
   where
     by_hostile : (b : Bool) → is_hostile x ≡ b → slice_get (honest domains) (left domains k) ≡ slice_get domains k → slice_get (honest (x ∷ domains)) (left (x ∷ domains) (suc k)) ≡ slice_get domains k
     by_hostile true is more = rw is more
     by_hostile false is more = rw is more
 
 -- honest places that differ are left apart
-pub left-rises : (domains : List Domain) (j k : ℕ) → IsHonestAt domains j → j < k → left domains j < left domains k
-left-rises [] j k h less = cc
-left-rises (x ∷ domains) j zero h less = absurd (omega (arith, less))
-left-rises (x ∷ domains) zero (suc k) h less = rw h (omega arith)
-left-rises (x ∷ domains) (suc j) (suc k) h less = by_hostile (is_hostile x) refl (left-rises domains j k h (omega (arith, less)))
+pub left_rises : (domains : List Domain) (j k : ℕ) → IsHonestAt domains j → j < k → left domains j < left domains k
+left_rises [] j k h less = cc
+left_rises (x ∷ domains) j zero h less = absurd (omega (arith, less))
+left_rises (x ∷ domains) zero (suc k) h less = rw h (omega arith)
+left_rises (x ∷ domains) (suc j) (suc k) h less = by_hostile (is_hostile x) refl (left_rises domains j k h (omega (arith, less)))
   where
     by_hostile : (b : Bool) → is_hostile x ≡ b → left domains j < left domains k → left (x ∷ domains) (suc j) < left (x ∷ domains) (suc k)
     by_hostile true is more = rw is more
     by_hostile false is more = rw is (omega (arith, more))
 
 -- no domain that is left is hostile
-pub none-hostile : (domains : List Domain) (k : ℕ) → option_map_or is_hostile (slice_get (honest domains) k) false ≡ false
-none-hostile [] k = refl
-none-hostile (x ∷ domains) k = by_hostile (is_hostile x) refl k (λ j. none-hostile domains j)
+pub none_hostile : (domains : List Domain) (k : ℕ) → option_map_or is_hostile (slice_get (honest domains) k) false ≡ false
+none_hostile [] k = refl
+none_hostile (x ∷ domains) k = by_hostile (is_hostile x) refl k (λ j. none_hostile domains j)
   where
     by_hostile : (b : Bool) → is_hostile x ≡ b → (k' : ℕ) → ((j : ℕ) → option_map_or is_hostile (slice_get (honest domains) j) false ≡ false) → option_map_or is_hostile (slice_get (honest (x ∷ domains)) k') false ≡ false
     by_hostile true is k' more = rw is (more k')
     by_hostile false is zero more = rw is is
     by_hostile false is (suc j) more = rw is (more j)
 
-hostile-none : (domains : List Domain) (d : ℕ) → hostile_among (honest domains) d ≡ false
-hostile-none domains zero = refl
-hostile-none domains (suc k) = none-hostile domains k
+hostile_none : (domains : List Domain) (d : ℕ) → hostile_among (honest domains) d ≡ false
+hostile_none domains zero = refl
+hostile_none domains (suc k) = none_hostile domains k
 
-mixed-none : (domains : List Domain) (o : Option ℕ) → option_map_or (hostile_among (honest domains)) o false ≡ false
-mixed-none domains None = refl
-mixed-none domains (Some d) = hostile-none domains d
+mixed_none : (domains : List Domain) (o : Option ℕ) → option_map_or (hostile_among (honest domains)) o false ≡ false
+mixed_none domains None = refl
+mixed_none domains (Some d) = hostile_none domains d
 
 -- a named place is there
-pub named-there : (domains : List Domain) (name : List ℕ) (k : ℕ) → place_named domains name ≡ Some k → is_some (slice_get domains k) ≡ true
-named-there [] name k h = cc
-named-there (x ∷ domains) name k h = by_name (bytes_eq x.name name) (λ j is. named-there domains name j is) h
+pub named_there : (domains : List Domain) (name : List ℕ) (k : ℕ) → place_named domains name ≡ Some k → is_some (slice_get domains k) ≡ true
+named_there [] name k h = cc
+named_there (x ∷ domains) name k h = by_name (bytes_eq x.name name) (λ j is. named_there domains name j is) h
   where
     by_rest : (o : Option ℕ) → ((j : ℕ) → o ≡ Some j → is_some (slice_get domains j) ≡ true) → (k' : ℕ) → option_map suc o ≡ Some k' → is_some (slice_get (x ∷ domains) k') ≡ true
     by_rest None more k' e = cc
@@ -93,12 +93,12 @@ named-there (x ∷ domains) name k h = by_name (bytes_eq x.name name) (λ j is. 
     by_name true more e = let zero_is : 0 ≡ k = cc in rw (← zero_is) refl
     by_name false more e = by_rest (place_named domains name) more k e
 
-pub honest-at : (o : Option Domain) → is_some o ≡ true → option_map_or is_hostile o false ≡ false → option_map_or is_hostile o true ≡ false
-honest-at None there h = cc
-honest-at (Some x) there h = h
+pub honest_at : (o : Option Domain) → is_some o ≡ true → option_map_or is_hostile o false ≡ false → option_map_or is_hostile o true ≡ false
+honest_at None there h = cc
+honest_at (Some x) there h = h
 
-pub same-test : (domains : List Domain) (j k : ℕ) → IsHonestAt domains j → IsHonestAt domains k → (suc (left domains k) == suc (left domains j)) ≡ (suc k == suc j)
-same-test domains j k hj hk = by_order (cases k j)
+pub same_test : (domains : List Domain) (j k : ℕ) → IsHonestAt domains j → IsHonestAt domains k → (suc (left domains k) == suc (left domains j)) ≡ (suc k == suc j)
+same_test domains j k hj hk = by_order (cases k j)
   where
     cases : (a b : ℕ) → (a < b) ⊎ ((a ≡ b) ⊎ (b < a))
     cases zero zero = inr (inl refl)
@@ -113,80 +113,80 @@ same-test domains j k hj hk = by_order (cases k j)
 
     by_order : ((k < j) ⊎ ((k ≡ j) ⊎ (j < k))) → (suc (left domains k) == suc (left domains j)) ≡ (suc k == suc j)
     by_order (inl less) =
-        let rises = left-rises domains k j hk less in
+        let rises = left_rises domains k j hk less in
         let a : (suc (left domains k) == suc (left domains j)) ≡ false = grind (arith, nat_tests) in
         let b : (suc k == suc j) ≡ false = grind (arith, nat_tests) in
         a ∙ sym b
     by_order (inr (inl is)) = rw is (let a : (suc (left domains j) == suc (left domains j)) ≡ true = grind (arith, nat_tests) in let b : (suc j == suc j) ≡ true = grind (arith, nat_tests) in a ∙ sym b)
     by_order (inr (inr less)) =
-        let rises = left-rises domains j k hj less in
+        let rises = left_rises domains j k hj less in
         let a : (suc (left domains k) == suc (left domains j)) ≡ false = grind (arith, nat_tests) in
         let b : (suc k == suc j) ≡ false = grind (arith, nat_tests) in
         a ∙ sym b
 
 -- an honest domain keeps its name
-from-name : (domains : List Domain) (d : ℕ) → IsHonest domains d → name_among (honest domains) (number_left domains d) ≡ name_among domains d
-from-name domains zero h = cc
-from-name domains (suc k) h = ap (λ o. option_map_or (λ domain. domain.name) o []) (at-left domains k h)
+from_name : (domains : List Domain) (d : ℕ) → IsHonest domains d → name_among (honest domains) (number_left domains d) ≡ name_among domains d
+from_name domains zero h = cc
+from_name domains (suc k) h = ap (λ o. option_map_or (λ domain. domain.name) o []) (at_left domains k h)
 
 -- an honest domain is one among those that are left
-pub honest-left : (domains : List Domain) (d : ℕ) → IsHonest domains d → IsHonest (honest domains) (number_left domains d)
-honest-left domains zero h = cc
-honest-left domains (suc k) h = rw (at-left domains k h) h
+pub honest_left : (domains : List Domain) (d : ℕ) → IsHonest domains d → IsHonest (honest domains) (number_left domains d)
+honest_left domains zero h = cc
+honest_left domains (suc k) h = rw (at_left domains k h) h
 
 -- what a name leads to, if it isn't the name of a hostile domain
-pub plain-named : (domains : List Domain) (name : List ℕ) (k : ℕ) → place_named domains name ≡ Some k → option_map_or (hostile_among domains) (Some (suc k)) false ≡ false
+pub plain_named : (domains : List Domain) (name : List ℕ) (k : ℕ) → place_named domains name ≡ Some k → option_map_or (hostile_among domains) (Some (suc k)) false ≡ false
     → IsHonestAt domains k × (place_named (honest domains) name ≡ Some (left domains k))
-plain-named domains name k is plain =
-    let there = honest-at (slice_get domains k) (named-there domains name k is) plain in
-    let h = left-named domains name in
+plain_named domains name k is plain =
+    let there = honest_at (slice_get domains k) (named_there domains name k is) plain in
+    let h = left_named domains name in
     let h' = rw is at h in
     (there, h' there)
 
-pub none-named : (domains : List Domain) (name : List ℕ) → place_named domains name ≡ None → place_named (honest domains) name ≡ None
-none-named domains name is = let h = left-named domains name in rw is at h
+pub none_named : (domains : List Domain) (name : List ℕ) → place_named domains name ≡ None → place_named (honest domains) name ≡ None
+none_named domains name is = let h = left_named domains name in rw is at h
 
-same-result : (domains : List Domain) (call : CallPlan) → IsHonest domains call.from → (o : Option ℕ) → place_named domains call.to ≡ o → option_map_or (hostile_among domains) (option_map suc o) false ≡ false
+same_result : (domains : List Domain) (call : CallPlan) → IsHonest domains call.from → (o : Option ℕ) → place_named domains call.to ≡ o → option_map_or (hostile_among domains) (option_map suc o) false ≡ false
     → by_domain (call_left domains call) (number_named (honest domains) call.to) ≡ by_domain call (option_map suc o)
-same-result domains call caller None is plain =
-    let none = none-named domains call.to is in
+same_result domains call caller None is plain =
+    let none = none_named domains call.to is in
     rw none refl
-same-result domains call caller (Some k) is plain = by_from call.from refl
+same_result domains call caller (Some k) is plain = by_from call.from refl
   where
     by_from : (d : ℕ) → call.from ≡ d → by_domain (call_left domains call) (number_named (honest domains) call.to) ≡ by_domain call (Some (suc k))
     by_from zero f = let there = rw f at caller in cc
     by_from (suc j) f =
         let there = rw f at caller in
-        let (at, named) = plain-named domains call.to k is plain in
-        let tests = same-test domains j k there at in
+        let (at, named) = plain_named domains call.to k is plain in
+        let tests = same_test domains j k there at in
         rw (named, f, tests) refl
 
-same-line : (domains : List Domain) (call : CallPlan) → IsHonest domains call.from → targets_hostile domains call ≡ false → line_among (honest domains) (call_left domains call) ≡ line_among domains call
-same-line domains call caller plain =
-    let name = from-name domains call.from caller in
-    let result = same-result domains call caller (place_named domains call.to) refl plain in
+same_line : (domains : List Domain) (call : CallPlan) → IsHonest domains call.from → targets_hostile domains call ≡ false → line_among (honest domains) (call_left domains call) ≡ line_among domains call
+same_line domains call caller plain =
+    let name = from_name domains call.from caller in
+    let result = same_result domains call caller (place_named domains call.to) refl plain in
     rw (name, result) refl
 
 -- over some calls
-all-lines : (domains : List Domain) (calls : List CallPlan) → AllByRecursion (λ call. IsHonest domains call.from) calls
+all_lines : (domains : List Domain) (calls : List CallPlan) → AllByRecursion (λ call. IsHonest domains call.from) calls
     → map (line_among (honest domains)) (filter (λ call. not (targets_hostile (honest domains) call)) (calls_left domains calls))
     ≡ map (line_among domains) (filter (λ call. not (targets_hostile domains call)) calls)
-all-lines domains [] each = refl
-all-lines domains (call ∷ calls) each = by_mixed (targets_hostile domains call) refl (all-lines domains calls each.1)
+all_lines domains [] each = refl
+all_lines domains (call ∷ calls) each = by_mixed (targets_hostile domains call) refl (all_lines domains calls each.1)
   where
     by_mixed : (b : Bool) → targets_hostile domains call ≡ b
         → map (line_among (honest domains)) (filter (λ c. not (targets_hostile (honest domains) c)) (calls_left domains calls)) ≡ map (line_among domains) (filter (λ c. not (targets_hostile domains c)) calls)
         → map (line_among (honest domains)) (filter (λ c. not (targets_hostile (honest domains) c)) (calls_left domains (call ∷ calls))) ≡ map (line_among domains) (filter (λ c. not (targets_hostile domains c)) (call ∷ calls))
     by_mixed true is more = rw is more
     by_mixed false is more =
-        let none = mixed-none domains (number_named (honest domains) call.to) in
-        let line = same-line domains call each.0 is in
+        let none = mixed_none domains (number_named (honest domains) call.to) in
+        let line = same_line domains call each.0 is in
         rw (is, none, line) (ap (λ r. line_among domains call ∷ r) more)
 
-pub lines-without : (s : Plan) → AllByRecursion (λ call. IsHonest s.domains call.from) s.calls → lines (without_hostile s) ≡ lines s
-lines-without s each = all-lines s.domains s.calls each
+pub lines_without : (s : Plan) → AllByRecursion (λ call. IsHonest s.domains call.from) s.calls → lines (without_hostile s) ≡ lines s
+lines_without s each = all_lines s.domains s.calls each
 
 -- the number that is left, of a number that isn't 0
-pub number_left-pred : (domains : List Domain) (d : ℕ) → IsHonest domains d → number_left domains d ≡ length (honest (take (d - 1) domains)) + 1
-number_left-pred domains zero h = cc
-number_left-pred domains (suc k) h = let less : suc k - 1 ≡ k = omega arith in rw less (omega arith)
+pub number_left_pred : (domains : List Domain) (d : ℕ) → IsHonest domains d → number_left domains d ≡ length (honest (take (d - 1) domains)) + 1
+number_left_pred domains zero h = cc
+number_left_pred domains (suc k) h = let less : suc k - 1 ≡ k = omega arith in rw less (omega arith)

@@ -16,22 +16,22 @@ use Rattle.task_duties.specs.declared.ends.DataEnd.{DataEnd}
 use Rattle.task_duties.specs.Places.{numbers}
 use Rattle.task_duties.specs.TaskOwes.{Broker, EndAt, broker_ends, places_in}
 use Rattle.task_duties.specs.GivenEnds.{all_given, fresh_view}
-use Rattle.task_duties.proofs.Elements.{Has, each-of, has-filter_map, has-map-back}
+use Rattle.task_duties.proofs.Elements.{Has, each_of, has_filter_map, has_map_back}
 use Rattle.broker_task.specs.Given.{IsNewClient}
 use Rattle.data_slots.specs.Slots.{IsEndOf, IsGiven}
 use Rattle.run_laws.specs.Laid.{agent_plan, awaited_by, client_of, hostile_plan, hub_of, is_data, places_of, server_of}
 use Rattle.run_laws.specs.Run.{IsPlace}
 use Rattle.run_laws.specs.Results.{IsGivenTo}
-use Rattle.run_laws.proofs.Scenarios.Numbers.{domain-is}
-use Rattle.run_laws.proofs.Scenarios.Names.{below-there}
-use Rattle.run_laws.proofs.Reports.WholeReport.{laid-place}
+use Rattle.run_laws.proofs.Scenarios.Numbers.{domain_is}
+use Rattle.run_laws.proofs.Scenarios.Names.{below_there}
+use Rattle.run_laws.proofs.Reports.WholeReport.{laid_place}
 use Rattle.run_pages.specs.declared.deal.Hand.{Hand}
 use Rattle.run_pages.specs.Pages.{AreLaid, PageAt, end_on, new_end, new_ends}
 use Rattle.run_pages.specs.Dealt.{ControlsDealt, HandsDealt, HasOrders, HaveOrders, hand_ends}
-use Rattle.run_pages.proofs.PlaceLaws.{broker-places, places-dealt}
+use Rattle.run_pages.proofs.PlaceLaws.{broker_places, places_dealt}
 use Rattle.scenario_run.specs.Tasks.{AreControlsOf, AreHandsOf, IsHandOf, domain_given}
 use Rattle.scenario_run.specs.Answering.{ends_given}
-use Rattle.scenario_run.proofs.PlaceLaws.{all-apart, apart-by-index, places-differ}
+use Rattle.scenario_run.proofs.PlaceLaws.{all_apart_lem, apart_by_index, places_differ}
 
 -- ---- an end on which nothing has happened
 
@@ -44,8 +44,8 @@ record IsNew (s : Scenario) (number : ℕ) (e : EndAt) : Type 0 where
 unused : (p : PageAt) (role : Role) → IsUnused (new_end p role).view
 unused p role = record { idle = refl; state = refl; sent = refl; got = refl; saw = refl; ended = refl; drained = refl; misled = refl; retired = refl; turned = refl }
 
-end-is-new : (s : Scenario) (number : ℕ) (p : PageAt) (e : EndAt) → IsPlace s p.place → end_on number p ≡ Some e → IsNew s number e
-end-is-new s number p e lies is = by (server_of p.place == number) refl (client_of p.place == number) refl
+end_is_new : (s : Scenario) (number : ℕ) (p : PageAt) (e : EndAt) → IsPlace s p.place → end_on number p ≡ Some e → IsNew s number e
+end_is_new s number p e lies is = by (server_of p.place == number) refl (client_of p.place == number) refl
   where
     by : (a : Bool) → (server_of p.place == number) ≡ a → (b : Bool) → (client_of p.place == number) ≡ b → IsNew s number e
     by true x b y =
@@ -56,42 +56,42 @@ end-is-new s number p e lies is = by (server_of p.place == number) refl (client_
         subst (IsNew s number) same (record { lies = lies; unused = unused p Client; which = inr ((λ z. (let k : (server_of p.place == number) ≡ true = grind (arith, nat_tests, z) in let both : true ≡ false = sym k ∙ x in absurd cc)), grind (arith, nat_tests, y), refl) })
     by false x false y = absurd (let k : None ≡ Some e = (let k' = rw (x, y) at is in k') in cc)
 
-ends-are-new : (s : Scenario) (pages : List PageAt) (number : ℕ) → AreLaid s pages → Each (IsNew s number) (new_ends pages number)
-ends-are-new s pages number are =
-    each-of (IsNew s number) (new_ends pages number) (λ e h.
-    (let c = has-filter_map (end_on number) pages e h in
-    end-is-new s number c.one e (laid-place s c.one.place (subst (λ places. Has places c.one.place) are.places (has-map-back (λ p. p.place) pages c.one c.there))) c.is))
+ends_are_new : (s : Scenario) (pages : List PageAt) (number : ℕ) → AreLaid s pages → Each (IsNew s number) (new_ends pages number)
+ends_are_new s pages number are =
+    each_of (IsNew s number) (new_ends pages number) (λ e h.
+    (let c = has_filter_map (end_on number) pages e h in
+    end_is_new s number c.one e (laid_place s c.one.place (subst (λ places. Has places c.one.place) are.places (has_map_back (λ p. p.place) pages c.one c.there))) c.is))
 
 -- ---- the controls
 
-control-end : (s : Scenario) (e : EndAt) → IsNew s 0 e → IsUnused e.view × (e.view.role ≡ Client)
-control-end s e new = (new.unused, by e.place new.lies new.which)
+control_end : (s : Scenario) (e : EndAt) → IsNew s 0 e → IsUnused e.view × (e.view.role ≡ Client)
+control_end s e new = (new.unused, by e.place new.lies new.which)
   where
     by : (place : PagePlace) → IsPlace s place → ((server_of place ≡ 0) × (e.view.role ≡ Server)) ⊎ ((server_of place ≢ 0) × (client_of place ≡ 0) × (e.view.role ≡ Client)) → e.view.role ≡ Client
     by place lies (inr client) = client.2
-    by (Control d) lies (inl server) = absurd (let low = (domain-is s d lies).0 in omega (arith, low, server.0))
-    by (Payload f t port) lies (inl server) = absurd (let low = (domain-is s f lies.1).0 in omega (arith, low, server.0))
+    by (Control d) lies (inl server) = absurd (let low = (domain_is s d lies).0 in omega (arith, low, server.0))
+    by (Payload f t port) lies (inl server) = absurd (let low = (domain_is s f lies.1).0 in omega (arith, low, server.0))
 
-each-control : (from : ℕ) (controls : List SeatedEnd) → Each (λ e. IsUnused e.view × (e.view.role ≡ Client)) (broker_ends from (map view controls)) → Each IsNewClient controls
-each-control from [] each = tt
-each-control from (c ∷ controls) each = (each.0, each-control (from + 1) controls each.1)
+each_control : (from : ℕ) (controls : List SeatedEnd) → Each (λ e. IsUnused e.view × (e.view.role ≡ Client)) (broker_ends from (map view controls)) → Each IsNewClient controls
+each_control from [] each = tt
+each_control from (c ∷ controls) each = (each.0, each_control (from + 1) controls each.1)
 
-each-of-new : (s : Scenario) (ends : List EndAt) → Each (IsNew s 0) ends → Each (λ e. IsUnused e.view × (e.view.role ≡ Client)) ends
-each-of-new s [] each = tt
-each-of-new s (e ∷ ends) each = (control-end s e each.0, each-of-new s ends each.1)
+each_of_new : (s : Scenario) (ends : List EndAt) → Each (IsNew s 0) ends → Each (λ e. IsUnused e.view × (e.view.role ≡ Client)) ends
+each_of_new s [] each = tt
+each_of_new s (e ∷ ends) each = (control_end s e each.0, each_of_new s ends each.1)
 
-pub controls-fit : (s : Scenario) (pages : List PageAt) (controls : List SeatedEnd) → AreLaid s pages → ControlsDealt pages controls → length controls ≡ length s.domains → AreControlsOf s controls
-controls-fit s pages controls are dealt count =
+pub controls_fit : (s : Scenario) (pages : List PageAt) (controls : List SeatedEnd) → AreLaid s pages → ControlsDealt pages controls → length controls ≡ length s.domains → AreControlsOf s controls
+controls_fit s pages controls are dealt count =
     record {
       count = count;
-      unused = each-control 1 controls (subst (Each (λ e. IsUnused e.view × (e.view.role ≡ Client))) (sym dealt) (each-of-new s (new_ends pages 0) (ends-are-new s pages 0 are)));
+      unused = each_control 1 controls (subst (Each (λ e. IsUnused e.view × (e.view.role ≡ Client))) (sym dealt) (each_of_new s (new_ends pages 0) (ends_are_new s pages 0 are)));
     }
 
 -- ---- the hands
 
-data-given : (s : Scenario) (d : ℕ) (payload : List DataEnd) → Each (IsNew s d) (all_given payload) → Each (IsGiven d) (all_given payload)
-data-given s d [] each = tt
-data-given s d (x ∷ payload) each = (record { of_domain = by each.0.which; unused = each.0.unused }, data-given s d payload each.1)
+data_given : (s : Scenario) (d : ℕ) (payload : List DataEnd) → Each (IsNew s d) (all_given payload) → Each (IsGiven d) (all_given payload)
+data_given s d [] each = tt
+data_given s d (x ∷ payload) each = (record { of_domain = by each.0.which; unused = each.0.unused }, data_given s d payload each.1)
   where
     role : Role
     role = (fresh_view x.end).role
@@ -105,62 +105,62 @@ record IsNewHand (s : Scenario) (d : ℕ) (hand : Hand) : Type 0 where
   new : Each (IsNew s d) (hand_ends d hand)
   places : places_in (hand_ends d hand) ≡ places_of s d
 
-new-hand : (s : Scenario) (pages : List PageAt) (d : ℕ) (hand : Hand) → 1 ≤ d → AreLaid s pages → hand_ends d hand ≡ new_ends pages d → IsNewHand s d hand
-new-hand s pages d hand some are dealt = record {
-  new = subst (Each (IsNew s d)) (sym dealt) (ends-are-new s pages d are);
-  places = ap places_in dealt ∙ places-dealt s pages d some are;
+new_hand : (s : Scenario) (pages : List PageAt) (d : ℕ) (hand : Hand) → 1 ≤ d → AreLaid s pages → hand_ends d hand ≡ new_ends pages d → IsNewHand s d hand
+new_hand s pages d hand some are dealt = record {
+  new = subst (Each (IsNew s d)) (sym dealt) (ends_are_new s pages d are);
+  places = ap places_in dealt ∙ places_dealt s pages d some are;
 }
 
-hand-fits : (s : Scenario) (d : ℕ) (hand : Hand) → IsNewHand s d hand → HasOrders s d hand → IsHandOf s d hand
-hand-fits s d hand new orders = record {
+hand_fits : (s : Scenario) (d : ℕ) (hand : Hand) → IsNewHand s d hand → HasOrders s d hand → IsHandOf s d hand
+hand_fits s d hand new orders = record {
   server = by new.new.0.which;
   unused = new.new.0.unused;
-  given = data-given s d hand.payload.items new.new.1;
-  apart = apart-by-index (places_in (all_given hand.payload.items)) differ;
-  all_apart = all-apart (places_in (all_given hand.payload.items)) differ;
+  given = data_given s d hand.payload.items new.new.1;
+  apart = apart_by_index (places_in (all_given hand.payload.items)) differ;
+  all_apart = all_apart_lem (places_in (all_given hand.payload.items)) differ;
   orders = orders;
 }
   where
     differ : AreDifferent (places_in (all_given hand.payload.items))
-    differ = (subst (λ places. AreDifferent places) (sym new.places) (places-differ s d)).1
+    differ = (subst (λ places. AreDifferent places) (sym new.places) (places_differ s d)).1
 
     by : ((d ≡ d) × ((view hand.control).role ≡ Server)) ⊎ ((d ≢ d) × (0 ≡ d) × ((view hand.control).role ≡ Client)) → (view hand.control).role ≡ Server
     by (inl server) = server.1
     by (inr client) = absurd (client.0 refl)
 
-pub hands-fit : (s : Scenario) (pages : List PageAt) (hands : List Hand) → AreLaid s pages → HandsDealt pages hands → HaveOrders s hands → length hands ≡ length s.domains → AreHandsOf s hands
-hands-fit s pages hands are dealt orders count =
-    (count, λ k hand is. hand-fits s (k + 1) hand (new-hand s pages (k + 1) hand (omega arith) are (dealt k hand is)) (orders k hand is))
+pub hands_fit : (s : Scenario) (pages : List PageAt) (hands : List Hand) → AreLaid s pages → HandsDealt pages hands → HaveOrders s hands → length hands ≡ length s.domains → AreHandsOf s hands
+hands_fit s pages hands are dealt orders count =
+    (count, λ k hand is. hand_fits s (k + 1) hand (new_hand s pages (k + 1) hand (omega arith) are (dealt k hand is)) (orders k hand is))
 
 -- ---- what the tasks are given
 
-pub broker-given : (s : Scenario) (pages : List PageAt) (controls : List SeatedEnd) → ControlsDealt pages controls → length controls ≡ length s.domains
+pub broker_given_lem : (s : Scenario) (pages : List PageAt) (controls : List SeatedEnd) → ControlsDealt pages controls → length controls ≡ length s.domains
     → IsGivenTo s 0 (Broker (hub_of s) (awaited_by s) (broker_ends 1 (map view controls)))
-broker-given s pages controls dealt count =
-    (refl, refl, refl, broker-places 1 (map view controls) ∙ ap (λ n. map Control (numbers 1 1 n)) (length-map controls view ∙ count))
+broker_given_lem s pages controls dealt count =
+    (refl, refl, refl, broker_places 1 (map view controls) ∙ ap (λ n. map Control (numbers 1 1 n)) (length-map controls view ∙ count))
 
-data-places : (payload : List DataEnd) → filter is_data (places_in (all_given payload)) ≡ places_in (all_given payload)
-data-places [] = refl
-data-places (x ∷ payload) = ap (λ l. Payload x.from x.to x.port ∷ l) (data-places payload)
+data_places : (payload : List DataEnd) → filter is_data (places_in (all_given payload)) ≡ places_in (all_given payload)
+data_places [] = refl
+data_places (x ∷ payload) = ap (λ l. Payload x.from x.to x.port ∷ l) (data_places payload)
 
-each-unused : (s : Scenario) (d : ℕ) (ends : List EndAt) → Each (IsNew s d) ends → Each (λ e. IsUnused e.view) ends
-each-unused s d [] are = tt
-each-unused s d (e ∷ ends) are = (are.0.unused, each-unused s d ends are.1)
+each_unused : (s : Scenario) (d : ℕ) (ends : List EndAt) → Each (IsNew s d) ends → Each (λ e. IsUnused e.view) ends
+each_unused s d [] are = tt
+each_unused s d (e ∷ ends) are = (are.0.unused, each_unused s d ends are.1)
 
-pub domain-given : (s : Scenario) (pages : List PageAt) (d : ℕ) (hand : Hand) → 1 ≤ d → d ≤ length s.domains → AreLaid s pages → hand_ends d hand ≡ new_ends pages d
+pub domain_given_lem : (s : Scenario) (pages : List PageAt) (d : ℕ) (hand : Hand) → 1 ≤ d → d ≤ length s.domains → AreLaid s pages → hand_ends d hand ≡ new_ends pages d
     → IsGivenTo s d (domain_given s d hand) × (ends_given (domain_given s d hand) ≡ new_ends pages d)
-domain-given s pages d hand some within are dealt = by (hostile_at s d) refl
+domain_given_lem s pages d hand some within are dealt = by (hostile_at s d) refl
   where
     places : places_in (hand_ends d hand) ≡ places_of s d
-    places = ap places_in dealt ∙ places-dealt s pages d some are
+    places = ap places_in dealt ∙ places_dealt s pages d some are
 
     there : (n : ℕ) → 1 ≤ n → n ≤ length s.domains → is_some (domain_of s n) ≡ true
     there zero low high = absurd (omega (arith, low))
-    there (suc k) low high = below-there s.domains k (omega (arith, high))
+    there (suc k) low high = below_there s.domains k (omega (arith, high))
 
     own : places_in (all_given hand.payload.items) ≡ filter is_data (places_of s d)
-    own = sym (data-places hand.payload.items) ∙ ap (filter is_data) places
+    own = sym (data_places hand.payload.items) ∙ ap (filter is_data) places
 
     by : (b : Bool) → hostile_at s d ≡ b → IsGivenTo s d (domain_given s d hand) × (ends_given (domain_given s d hand) ≡ new_ends pages d)
-    by true is = rw is ((is, ap (λ l. record (hostile_plan s d) { places = l }) places, places, subst (Each (λ e. IsUnused e.view)) (sym dealt) (each-unused s d (new_ends pages d) (ends-are-new s pages d are))), dealt)
+    by true is = rw is ((is, ap (λ l. record (hostile_plan s d) { places = l }) places, places, subst (Each (λ e. IsUnused e.view)) (sym dealt) (each_unused s d (new_ends pages d) (ends_are_new s pages d are))), dealt)
     by false is = rw is ((record { there = there d some within; honest = is }, ap (λ l. record (agent_plan s d) { places = l }) own, places), dealt)

@@ -27,52 +27,52 @@ abbrev ServedFrom : Run → ℕ → List (List ServedDone) → Type 0
 ServedFrom run d [] = Unit {0}
 ServedFrom run d (served ∷ more) = (served ≡ run.served d) × ServedFrom run (d + 1) more
 
-from-numbers : (s : Scenario) (run : Run) (d : ℕ) (all : List (List ServedDone)) → ServedFrom run d all → sessions_from s d all ≡ flat_map (sessions_at s run) (numbers d 1 (length all))
-from-numbers s run d [] are = refl
-from-numbers s run d (served ∷ more) are =
-    ap (λ x. sessions_of s d x ++ sessions_from s (d + 1) more) are.0 ∙ ap (λ l. sessions_of s d (run.served d) ++ l) (from-numbers s run (d + 1) more are.1)
+from_numbers : (s : Scenario) (run : Run) (d : ℕ) (all : List (List ServedDone)) → ServedFrom run d all → sessions_from s d all ≡ flat_map (sessions_at s run) (numbers d 1 (length all))
+from_numbers s run d [] are = refl
+from_numbers s run d (served ∷ more) are =
+    ap (λ x. sessions_of s d x ++ sessions_from s (d + 1) more) are.0 ∙ ap (λ l. sessions_of s d (run.served d) ++ l) (from_numbers s run (d + 1) more are.1)
 
-served-from : (run : Run) (d : ℕ) (reports : List ReportPart) → ((k : ℕ) (part : ReportPart) → slice_get reports k ≡ Some part → part.served ≡ run.served (k + d)) → ServedFrom run d (map (λ r. r.served) reports)
-served-from run d [] each = tt
-served-from run d (r ∷ reports) each =
-    (each 0 r refl ∙ ap (λ n. run.served n) (let e : 0 + d ≡ d = omega arith in e), served-from run (d + 1) reports (λ k part is. each (suc k) part is ∙ ap (λ n. run.served n) (let e : suc k + d ≡ k + (d + 1) = omega arith in e)))
+served_from : (run : Run) (d : ℕ) (reports : List ReportPart) → ((k : ℕ) (part : ReportPart) → slice_get reports k ≡ Some part → part.served ≡ run.served (k + d)) → ServedFrom run d (map (λ r. r.served) reports)
+served_from run d [] each = tt
+served_from run d (r ∷ reports) each =
+    (each 0 r refl ∙ ap (λ n. run.served n) (let e : 0 + d ≡ d = omega arith in e), served_from run (d + 1) reports (λ k part is. each (suc k) part is ∙ ap (λ n. run.served n) (let e : suc k + d ≡ k + (d + 1) = omega arith in e)))
 
-none-of : (s : Scenario) (d : ℕ) → sessions_of s d [] ≡ []
-none-of s d = by (hostile_at s d)
+none_of : (s : Scenario) (d : ℕ) → sessions_of s d [] ≡ []
+none_of s d = by (hostile_at s d)
   where
     by : (b : Bool) → (if b then [] else sessions_with s d []) ≡ []
     by true = refl
     by false = refl
 
-pub all-sessions : (s : Scenario) (run : Run) (reports : List ReportPart) → length reports ≡ length s.domains + 1 → HaveServed run reports → sessions_from s 0 (map (λ r. r.served) reports) ≡ hostile_sessions s run
-all-sessions s run [] count have = absurd (omega (arith, count))
-all-sessions s run (r ∷ reports) count have =
+pub all_sessions : (s : Scenario) (run : Run) (reports : List ReportPart) → length reports ≡ length s.domains + 1 → HaveServed run reports → sessions_from s 0 (map (λ r. r.served) reports) ≡ hostile_sessions s run
+all_sessions s run [] count have = absurd (omega (arith, count))
+all_sessions s run (r ∷ reports) count have =
     ap (λ x. sessions_of s 0 x ++ sessions_from s 1 (map (λ r. r.served) reports)) (have.each 0 r refl ∙ have.broker)
-    ∙ ap (λ l. l ++ sessions_from s 1 (map (λ r. r.served) reports)) (none-of s 0)
-    ∙ from-numbers s run 1 (map (λ r. r.served) reports) (served-from run 1 reports (λ k part is. have.each (suc k) part is ∙ ap (λ n. run.served n) (let e : suc k ≡ k + 1 = omega arith in e)))
+    ∙ ap (λ l. l ++ sessions_from s 1 (map (λ r. r.served) reports)) (none_of s 0)
+    ∙ from_numbers s run 1 (map (λ r. r.served) reports) (served_from run 1 reports (λ k part is. have.each (suc k) part is ∙ ap (λ n. run.served n) (let e : suc k ≡ k + 1 = omega arith in e)))
     ∙ ap (λ n. flat_map (sessions_at s run) (numbers 1 1 n)) (length-map reports (λ r. r.served) ∙ (let e : length reports ≡ length s.domains = omega (arith, count) in e))
 
 -- ---- their lines
 
-pub lines-seen : (s : Scenario) (xs : List Session) → map (λ x. session_line s (seen x)) xs ≡ map (session_line s) (map seen xs)
-lines-seen s [] = refl
-lines-seen s (x ∷ xs) = ap (λ l. session_line s (seen x) ∷ l) (lines-seen s xs)
+pub lines_seen : (s : Scenario) (xs : List Session) → map (λ x. session_line s (seen x)) xs ≡ map (session_line s) (map seen xs)
+lines_seen s [] = refl
+lines_seen s (x ∷ xs) = ap (λ l. session_line s (seen x) ∷ l) (lines_seen s xs)
 
-index-map : {A B : Type 0} (f : A → B) (xs : List A) (k : ℕ) (d : B) (e : A) → k < length xs → slice_index_or (map f xs) k d ≡ f (slice_index_or xs k e)
-index-map f [] k d e within = absurd (omega (arith, within))
-index-map f (x ∷ xs) zero d e within = refl
-index-map f (x ∷ xs) (suc k) d e within = index-map f xs k d e (omega (arith, within))
+index_map : {A B : Type 0} (f : A → B) (xs : List A) (k : ℕ) (d : B) (e : A) → k < length xs → slice_index_or (map f xs) k d ≡ f (slice_index_or xs k e)
+index_map f [] k d e within = absurd (omega (arith, within))
+index_map f (x ∷ xs) zero d e within = refl
+index_map f (x ∷ xs) (suc k) d e within = index_map f xs k d e (omega (arith, within))
 
-first-of : {A : Type 0} (xs : List A) (k : ℕ) → k < length xs → A
-first-of [] k within = absurd (omega (arith, within))
-first-of (x ∷ xs) k within = x
+first_of : {A : Type 0} (xs : List A) (k : ℕ) → k < length xs → A
+first_of [] k within = absurd (omega (arith, within))
+first_of (x ∷ xs) k within = x
 
-pub pairs-seen : (xs : List Session) → AllPairs (λ a b. stands_before (seen b) (seen a) ≡ false) xs → AllPairs (λ a b. stands_before b a ≡ false) (map seen xs)
-pairs-seen xs pairs i j d less within =
+pub pairs_seen : (xs : List Session) → AllPairs (λ a b. stands_before (seen b) (seen a) ≡ false) xs → AllPairs (λ a b. stands_before b a ≡ false) (map seen xs)
+pairs_seen xs pairs i j d less within =
     let inside : j < length xs = (let n = length-map xs seen in omega (arith, within, n)) in
-    let e : Session = first-of xs j inside in
-    subst (λ b. stands_before b (slice_index_or (map seen xs) i d) ≡ false) (sym (index-map seen xs j d e inside))
-    (subst (λ a. stands_before (seen (slice_index_or xs j e)) a ≡ false) (sym (index-map seen xs i d e (omega (arith, less, inside))))
+    let e : Session = first_of xs j inside in
+    subst (λ b. stands_before b (slice_index_or (map seen xs) i d) ≡ false) (sym (index_map seen xs j d e inside))
+    (subst (λ a. stands_before (seen (slice_index_or xs j e)) a ≡ false) (sym (index_map seen xs i d e (omega (arith, less, inside))))
     (pairs i j e less inside))
 
 -- ---- in order
@@ -81,11 +81,11 @@ pairs-seen xs pairs i j d less within =
 abbrev pub Upto : Session → Session → Type 0
 Upto a b = (a.from < b.from) ⊎ ((a.from ≡ b.from) × ((a.to < b.to) ⊎ ((a.to ≡ b.to) × (a.port ≤ b.port))))
 
-upto-trans : (a b c : Session) → Upto a b → Upto b c → Upto a c
-upto-trans a b c (inl x) (inl y) = inl (omega (arith, x, y))
-upto-trans a b c (inl x) (inr y) = inl (omega (arith, x, y.0))
-upto-trans a b c (inr x) (inl y) = inl (omega (arith, x.0, y))
-upto-trans a b c (inr x) (inr y) = inr (x.0 ∙ y.0, by x.1 y.1)
+upto_trans : (a b c : Session) → Upto a b → Upto b c → Upto a c
+upto_trans a b c (inl x) (inl y) = inl (omega (arith, x, y))
+upto_trans a b c (inl x) (inr y) = inl (omega (arith, x, y.0))
+upto_trans a b c (inr x) (inl y) = inl (omega (arith, x.0, y))
+upto_trans a b c (inr x) (inr y) = inr (x.0 ∙ y.0, by x.1 y.1)
   where
     by : (a.to < b.to) ⊎ ((a.to ≡ b.to) × (a.port ≤ b.port)) → (b.to < c.to) ⊎ ((b.to ≡ c.to) × (b.port ≤ c.port)) → (a.to < c.to) ⊎ ((a.to ≡ c.to) × (a.port ≤ c.port))
     by (inl p) (inl q) = inl (omega (arith, p, q))
@@ -94,12 +94,12 @@ upto-trans a b c (inr x) (inr y) = inr (x.0 ∙ y.0, by x.1 y.1)
     by (inr p) (inr q) = inr (p.0 ∙ q.0, omega (arith, p.1, q.1))
 
 -- if a session is ordered up to another, the other doesn't stand before it
-not-before : (a b : Session) → Upto a b → stands_before (seen b) (seen a) ≡ false
-not-before a b (inl x) =
+not_before : (a b : Session) → Upto a b → stands_before (seen b) (seen a) ≡ false
+not_before a b (inl x) =
     let one : nat_lt b.from a.from ≡ false = grind (arith, nat_tests, x) in
     let two : (b.from == a.from) ≡ false = grind (arith, nat_tests, x) in
     rw (one, two) refl
-not-before a b (inr x) = by x.1
+not_before a b (inr x) = by x.1
   where
     one : nat_lt b.from a.from ≡ false
     one = let e = x.0 in grind (arith, nat_tests, e)
@@ -126,13 +126,13 @@ abbrev pub key_cmp : ℕ × ℕ × ℕ → ℕ × ℕ × ℕ → Ordering
 key_cmp x y = ordering_then (ordering_then (nat_cmp x.0 y.0) (nat_cmp x.1 y.1)) (nat_cmp x.2 y.2)
 
 -- from the clause of a sort by keys, if each call returns the key
-pub sorted-key : {F : Type 0} {g : Mut F (Bor Session × Unit {0}) (ℕ × ℕ × ℕ)} {f : F} (xs : List Session) → ((key : Session → ℕ × ℕ × ℕ) → ComputesKey g key f → IsSortedByKey key key_cmp xs)
+pub sorted_key : {F : Type 0} {g : Mut F (Bor Session × Unit {0}) (ℕ × ℕ × ℕ)} {f : F} (xs : List Session) → ((key : Session → ℕ × ℕ × ℕ) → ComputesKey g key f → IsSortedByKey key key_cmp xs)
     → ((a : Bor Session × Unit {0}) (r : ℕ × ℕ × ℕ) (f' : F) → Called g f a r f' → (r ≡ key_of a.0.now) × (f' ≡ f)) → IsSortedByKey key_of key_cmp xs
-sorted-key {g = g} {f = f} xs up h = up key_of (always_returns_same g (λ a r. r ≡ key_of a.0.now) f h)
+sorted_key {g = g} {f = f} xs up h = up key_of (always_returns_same g (λ a r. r ≡ key_of a.0.now) f h)
 
 -- a session whose key isn't less than another's doesn't stand before it
-pub sorted-next : (a b : Session) → is_lt (key_cmp (key_of b) (key_of a)) ≡ false → Upto a b
-sorted-next a b h = by_from (nat_lt b.from a.from) refl (b.from == a.from) refl
+pub sorted_next : (a b : Session) → is_lt (key_cmp (key_of b) (key_of a)) ≡ false → Upto a b
+sorted_next a b h = by_from (nat_lt b.from a.from) refl (b.from == a.from) refl
   where
     by_port : b.from ≡ a.from → b.to ≡ a.to → (p : Bool) → nat_lt b.port a.port ≡ p → is_lt (nat_cmp b.port a.port) ≡ false → Upto a b
     by_port same to true is k = absurd (let k' = rw is at k in false≢true (sym k'))
@@ -154,12 +154,12 @@ adjacent xs next zero i d within = subst (λ n. Upto (slice_index_or xs i d) (sl
 adjacent xs next (suc gap) i d within =
     let far : i + suc (suc gap) ≡ (i + suc gap) + 1 = omega arith in
     subst (λ n. Upto (slice_index_or xs i d) (slice_index_or xs n d)) (sym far)
-    (upto-trans (slice_index_or xs i d) (slice_index_or xs (i + suc gap) d) (slice_index_or xs ((i + suc gap) + 1) d)
+    (upto_trans (slice_index_or xs i d) (slice_index_or xs (i + suc gap) d) (slice_index_or xs ((i + suc gap) + 1) d)
     (adjacent xs next gap i d (omega (arith, within))) (next (i + suc gap) d (omega (arith, within))))
 
-pub all-ordered : (xs : List Session) → ((k : ℕ) (d : Session) → k + 1 < length xs → Upto (slice_index_or xs k d) (slice_index_or xs (k + 1) d)) → AllPairs (λ a b. stands_before (seen b) (seen a) ≡ false) xs
-all-ordered xs next i j d less within =
+pub all_ordered : (xs : List Session) → ((k : ℕ) (d : Session) → k + 1 < length xs → Upto (slice_index_or xs k d) (slice_index_or xs (k + 1) d)) → AllPairs (λ a b. stands_before (seen b) (seen a) ≡ false) xs
+all_ordered xs next i j d less within =
     let gap : ℕ = j - suc i in
     let far : i + suc gap ≡ j = omega (arith, less) in
     subst (λ n. stands_before (seen (slice_index_or xs n d)) (seen (slice_index_or xs i d)) ≡ false) far
-    (not-before (slice_index_or xs i d) (slice_index_or xs (i + suc gap) d) (adjacent xs next gap i d (omega (arith, within, far))))
+    (not_before (slice_index_or xs i d) (slice_index_or xs (i + suc gap) d) (adjacent xs next gap i d (omega (arith, within, far))))

@@ -5,7 +5,7 @@ use Rattle.std.specs.Global.{Global}
 use Rattle.std.specs.declared.vec.IntoIter.{IntoIter}
 use Rattle.std.specs.Vec.Iter.{into_iter_items, into_iter_len}
 use Rattle.std.proofs.lemmas.List.{append-nil}
-use Rattle.list_laws.proofs.Results.{no-items}
+use Rattle.list_laws.proofs.Results.{no_items}
 use Rattle.end_view.specs.EndView.{EndView}
 use Rattle.scenario_file.specs.Scenario.{Plan as Scenario}
 use Rattle.task_duties.specs.TaskOwes.{TaskGiven, broker_given}
@@ -18,24 +18,24 @@ abbrev pub given_from : Scenario → ℕ → List Hand → List TaskGiven
 given_from s d [] = []
 given_from s d (hand ∷ hands) = domain_given s d hand ∷ given_from s (d + 1) hands
 
-given-at : (s : Scenario) (d : ℕ) (hands : List Hand) (k : ℕ) (hand : Hand) → slice_get hands k ≡ Some hand → slice_get (given_from s d hands) k ≡ Some (domain_given s (k + d) hand)
-given-at s d [] k hand is = absurd (let e : None ≡ Some hand = is in cc)
-given-at s d (h ∷ hands) zero hand is = (let e : h ≡ hand = (let k : Some h ≡ Some hand = is in cc) in subst (λ n. slice_get (given_from s d (h ∷ hands)) 0 ≡ Some (domain_given s n hand)) (let m : d ≡ 0 + d = omega arith in m) (ap (λ x. Some (domain_given s d x)) e))
-given-at s d (h ∷ hands) (suc k) hand is = given-at s (d + 1) hands k hand is ∙ ap (λ n. Some (domain_given s n hand)) (let e : k + (d + 1) ≡ suc k + d = omega arith in e)
+given_at : (s : Scenario) (d : ℕ) (hands : List Hand) (k : ℕ) (hand : Hand) → slice_get hands k ≡ Some hand → slice_get (given_from s d hands) k ≡ Some (domain_given s (k + d) hand)
+given_at s d [] k hand is = absurd (let e : None ≡ Some hand = is in cc)
+given_at s d (h ∷ hands) zero hand is = (let e : h ≡ hand = (let k : Some h ≡ Some hand = is in cc) in subst (λ n. slice_get (given_from s d (h ∷ hands)) 0 ≡ Some (domain_given s n hand)) (let m : d ≡ 0 + d = omega arith in m) (ap (λ x. Some (domain_given s d x)) e))
+given_at s d (h ∷ hands) (suc k) hand is = given_at s (d + 1) hands k hand is ∙ ap (λ n. Some (domain_given s n hand)) (let e : k + (d + 1) ≡ suc k + d = omega arith in e)
 
-given-length : (s : Scenario) (d : ℕ) (hands : List Hand) → length (given_from s d hands) ≡ length hands
-given-length s d [] = refl
-given-length s d (h ∷ hands) = ap suc (given-length s (d + 1) hands)
+given_length : (s : Scenario) (d : ℕ) (hands : List Hand) → length (given_from s d hands) ≡ length hands
+given_length s d [] = refl
+given_length s d (h ∷ hands) = ap suc (given_length s (d + 1) hands)
 
-pub are-tasks : (s : Scenario) (controls : List EndView) (hands : List Hand) (given : List TaskGiven) → given ≡ broker_given (hub_of s) (awaited_by s) controls ∷ given_from s 1 hands → AreTasksOf s controls hands given
-are-tasks s controls hands given is = record {
+pub are_tasks : (s : Scenario) (controls : List EndView) (hands : List Hand) (given : List TaskGiven) → given ≡ broker_given (hub_of s) (awaited_by s) controls ∷ given_from s 1 hands → AreTasksOf s controls hands given
+are_tasks s controls hands given is = record {
   broker = ap (λ l. slice_get l 0) is;
   domains = λ k hand at. ap (λ l. slice_get l (k + 1)) is ∙ next k hand at;
-  count = ap length is ∙ (let n = given-length s 1 hands in omega (arith, n));
+  count = ap length is ∙ (let n = given_length s 1 hands in omega (arith, n));
 }
   where
     next : (k : ℕ) (hand : Hand) → slice_get hands k ≡ Some hand → slice_get (broker_given (hub_of s) (awaited_by s) controls ∷ given_from s 1 hands) (k + 1) ≡ Some (domain_given s (k + 1) hand)
-    next k hand at = subst (λ n. slice_get (broker_given (hub_of s) (awaited_by s) controls ∷ given_from s 1 hands) n ≡ Some (domain_given s (k + 1) hand)) (let e : suc k ≡ k + 1 = omega arith in e) (given-at s 1 hands k hand at)
+    next k hand at = subst (λ n. slice_get (broker_given (hub_of s) (awaited_by s) controls ∷ given_from s 1 hands) n ≡ Some (domain_given s (k + 1) hand)) (let e : suc k ≡ k + 1 = omega arith in e) (given_at s 1 hands k hand at)
 
 -- ---- while hands are left
 
@@ -47,9 +47,9 @@ pub record AreLeft (s : Scenario) (controls : List EndView) (hands : List Hand) 
   pub each : (k : ℕ) (hand : Hand) → slice_get rest k ≡ Some hand → IsHandOf s (k + number) hand
 
 -- only the broker's task was given
-pub left-first : (s : Scenario) (controls : List EndView) (hands : List Hand) (given : List TaskGiven) → AreHandsOf s hands
+pub left_first : (s : Scenario) (controls : List EndView) (hands : List Hand) (given : List TaskGiven) → AreHandsOf s hands
     → given ≡ broker_given (hub_of s) (awaited_by s) controls ∷ [] → AreLeft s controls hands given 1 hands
-left-first s controls hands given are is = record {
+left_first s controls hands given are is = record {
   so_far = ap (λ l. l ++ given_from s 1 hands) is;
   some = omega arith;
   count = omega (arith, are.0);
@@ -57,17 +57,17 @@ left-first s controls hands given are is = record {
 }
 
 -- a task may be made from the next hand
-pub left-hand : (s : Scenario) (controls : List EndView) (hands : List Hand) (given : List TaskGiven) (number : ℕ) (left rest : List Hand) (hand : Hand)
+pub left_hand : (s : Scenario) (controls : List EndView) (hands : List Hand) (given : List TaskGiven) (number : ℕ) (left rest : List Hand) (hand : Hand)
     → left ≡ hand ∷ rest → AreLeft s controls hands given number left → (number ≤ length s.domains) × IsHandOf s number hand
-left-hand s controls hands given number left rest hand is are = (
+left_hand s controls hands given number left rest hand is are = (
   (let n = ap length is in omega (arith, n, are.count)),
   subst (λ n. IsHandOf s n hand) (let e : 0 + number ≡ number = omega arith in e) (are.each 0 hand (ap (λ l. slice_get l 0) is)),
 )
 
 -- one task more was given
-pub left-on : (s : Scenario) (controls : List EndView) (hands : List Hand) (given now : List TaskGiven) (number : ℕ) (left rest : List Hand) (hand : Hand)
+pub left_on : (s : Scenario) (controls : List EndView) (hands : List Hand) (given now : List TaskGiven) (number : ℕ) (left rest : List Hand) (hand : Hand)
     → left ≡ hand ∷ rest → now ≡ given ++ domain_given s number hand ∷ [] → AreLeft s controls hands given number left → AreLeft s controls hands now (number + 1) rest
-left-on s controls hands given now number left rest hand is more are = record {
+left_on s controls hands given now number left rest hand is more are = record {
   so_far = ap (λ l. l ++ given_from s (number + 1) rest) more ∙ append_assoc given (domain_given s number hand ∷ []) (given_from s (number + 1) rest)
       ∙ ap (λ l. given ++ given_from s number l) (sym is) ∙ are.so_far;
   some = omega arith;
@@ -75,12 +75,12 @@ left-on s controls hands given now number left rest hand is more are = record {
   each = λ k h at. subst (λ n. IsHandOf s n h) (let e : suc k + number ≡ k + (number + 1) = omega arith in e) (are.each (suc k) h (ap (λ l. slice_get l (suc k)) is ∙ at));
 }
 
-no-more : (s : Scenario) (controls : List EndView) (hands : List Hand) (given : List TaskGiven) (number : ℕ) (left : List Hand)
+no_more : (s : Scenario) (controls : List EndView) (hands : List Hand) (given : List TaskGiven) (number : ℕ) (left : List Hand)
     → length left ≡ 0 → AreLeft s controls hands given number left → given ≡ broker_given (hub_of s) (awaited_by s) controls ∷ given_from s 1 hands
-no-more s controls hands given number [] none are = sym (append-nil given) ∙ are.so_far
-no-more s controls hands given number (hand ∷ left) none are = absurd (omega (arith, none))
+no_more s controls hands given number [] none are = sym (append-nil given) ∙ are.so_far
+no_more s controls hands given number (hand ∷ left) none are = absurd (omega (arith, none))
 
 -- all tasks were given
-pub left-none : (s : Scenario) (controls : List EndView) (hands : List Hand) (given : List TaskGiven) (number : ℕ) (it : IntoIter Hand Global)
+pub left_none : (s : Scenario) (controls : List EndView) (hands : List Hand) (given : List TaskGiven) (number : ℕ) (it : IntoIter Hand Global)
     → into_iter_len it ≡ 0 → AreLeft s controls hands given number (into_iter_items it) → AreTasksOf s controls hands given
-left-none s controls hands given number it none are = are-tasks s controls hands given (no-more s controls hands given number (into_iter_items it) (no-items it none) are)
+left_none s controls hands given number it none are = are_tasks s controls hands given (no_more s controls hands given number (into_iter_items it) (no_items it none) are)

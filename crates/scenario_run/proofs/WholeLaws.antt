@@ -3,7 +3,7 @@ use Rattle.std.proofs.Common.{◌≡◌, ℕ, zero, suc, ◌+◌, List, [], ◌�
 use Rattle.std.specs.Prelude.{false, slice_get, AllPairs, IsPermutation}
 use Rattle.std.specs.Global.{Global}
 use Rattle.std.specs.List.{AllByRecursion as Each}
-use Rattle.list_laws.proofs.Each.{each-through}
+use Rattle.list_laws.proofs.Each.{each_through}
 use Rattle.scenario_file.specs.Scenario.{Plan as Scenario, IsScenario}
 use Rattle.task_duties.specs.declared.ends.RetiredEnd.{RetiredEnd}
 use Rattle.task_duties.specs.declared.done.ServedDone.{ServedDone}
@@ -26,12 +26,12 @@ use Rattle.scenario_run.specs.Answering.{AreAnswers}
 use Rattle.scenario_run.specs.Lines.{HasReports}
 use Rattle.scenario_run.specs.Parts.{ReportPart, report_of}
 use Rattle.scenario_run.specs.Sessions.{HaveServed}
-use Rattle.scenario_run.proofs.AnswerLaws.{are-results, ends-back}
-use Rattle.scenario_run.proofs.ReportLaws.{has-reports, have-served}
+use Rattle.scenario_run.proofs.AnswerLaws.{are_results, ends_back}
+use Rattle.scenario_run.proofs.ReportLaws.{has_reports, have_served}
 
-map-twice : {A B C : Type 0} (f : B → C) (g : A → B) (xs : List A) → map (λ x. f (g x)) xs ≡ map f (map g xs)
-map-twice f g [] = refl
-map-twice f g (x ∷ xs) = ap (λ l. f (g x) ∷ l) (map-twice f g xs)
+map_twice : {A B C : Type 0} (f : B → C) (g : A → B) (xs : List A) → map (λ x. f (g x)) xs ≡ map f (map g xs)
+map_twice f g [] = refl
+map_twice f g (x ∷ xs) = ap (λ l. f (g x) ∷ l) (map_twice f g xs)
 
 abbrev pub Ends : Type 0
 Ends = List (Vec RetiredEnd Global)
@@ -45,50 +45,50 @@ pub record AreApart (dones : List TaskDone) (ends : Ends) (reports : List Report
 pub back : (s : Scenario) (pages : List PageAt) (dones : List TaskDone) (ends : Ends) (reports : List ReportPart) → AreAnswers s pages (map answer_of dones) → AreApart dones ends reports
     → HandsBack pages (map (λ h. all_retired h.items) ends)
 back s pages dones ends reports are apart =
-    subst (HandsBack pages) (sym (apart.ends_are ∙ map-twice ends_of answer_of dones)) (ends-back s pages (map answer_of dones) are)
+    subst (HandsBack pages) (sym (apart.ends_are ∙ map_twice ends_of answer_of dones)) (ends_back s pages (map answer_of dones) are)
 
 pub results : (s : Scenario) (pages : List PageAt) (dones : List TaskDone) (ends : Ends) (reports : List ReportPart) (settled : List SettledPage) → IsScenario s → AreLaid s pages
     → AreAnswers s pages (map answer_of dones) → AreApart dones ends reports → AreSettledBy s pages (map (λ h. all_retired h.items) ends) settled → AreResults s (map answer_of dones) settled
 results s pages dones ends reports settled scenario laid are apart by =
-    are-results s pages (map answer_of dones) settled scenario laid are (each-through IsReport answer_of dones apart.done)
-    (subst (λ hands. AreSettledBy s pages hands settled) (apart.ends_are ∙ map-twice ends_of answer_of dones) by)
+    are_results s pages (map answer_of dones) settled scenario laid are (each_through IsReport answer_of dones apart.done)
+    (subst (λ hands. AreSettledBy s pages hands settled) (apart.ends_are ∙ map_twice ends_of answer_of dones) by)
 
 pub reported : (s : Scenario) (pages : List PageAt) (dones : List TaskDone) (ends : Ends) (reports : List ReportPart) (settled : List SettledPage) → AreAnswers s pages (map answer_of dones) → AreApart dones ends reports
     → AreResults s (map answer_of dones) settled → HasReports s (run_of s (map answer_of dones)) s.calls reports
 reported s pages dones ends reports settled are apart is =
-    subst (HasReports s (run_of s (map answer_of dones)) s.calls) (sym (apart.reports_are ∙ map-twice report_of answer_of dones)) (has-reports s (map answer_of dones) settled is are.count)
+    subst (HasReports s (run_of s (map answer_of dones)) s.calls) (sym (apart.reports_are ∙ map_twice report_of answer_of dones)) (has_reports s (map answer_of dones) settled is are.count)
 
 -- ---- what was served stays while only calls are taken
 
-get-served : (reports : List ReportPart) (d : ℕ) (part : ReportPart) → slice_get reports d ≡ Some part → slice_get (map (λ r. r.served) reports) d ≡ Some part.served
-get-served [] d part is = absurd (let e : None ≡ Some part = is in cc)
-get-served (r ∷ reports) zero part is = (let e : r ≡ part = (let k : Some r ≡ Some part = is in cc) in ap (λ (x : ReportPart). Some x.served) e)
-get-served (r ∷ reports) (suc d) part is = get-served reports d part is
+get_served : (reports : List ReportPart) (d : ℕ) (part : ReportPart) → slice_get reports d ≡ Some part → slice_get (map (λ r. r.served) reports) d ≡ Some part.served
+get_served [] d part is = absurd (let e : None ≡ Some part = is in cc)
+get_served (r ∷ reports) zero part is = (let e : r ≡ part = (let k : Some r ≡ Some part = is in cc) in ap (λ (x : ReportPart). Some x.served) e)
+get_served (r ∷ reports) (suc d) part is = get_served reports d part is
 
-from-served : (reports : List ReportPart) (d : ℕ) (served : List ServedDone) → slice_get (map (λ r. r.served) reports) d ≡ Some served → (part : ReportPart) × (slice_get reports d ≡ Some part) × (part.served ≡ served)
-from-served [] d served is = absurd (let e : None ≡ Some served = is in cc)
-from-served (r ∷ reports) zero served is = (r, refl, (let e : Some r.served ≡ Some served = is in cc))
-from-served (r ∷ reports) (suc d) served is = from-served reports d served is
+from_served : (reports : List ReportPart) (d : ℕ) (served : List ServedDone) → slice_get (map (λ r. r.served) reports) d ≡ Some served → (part : ReportPart) × (slice_get reports d ≡ Some part) × (part.served ≡ served)
+from_served [] d served is = absurd (let e : None ≡ Some served = is in cc)
+from_served (r ∷ reports) zero served is = (r, refl, (let e : Some r.served ≡ Some served = is in cc))
+from_served (r ∷ reports) (suc d) served is = from_served reports d served is
 
-pub served-same : (run : Run) (old new : List ReportPart) → map (λ r. r.served) new ≡ map (λ r. r.served) old → HaveServed run old → HaveServed run new
-served-same run old new same have = record {
-  each = λ d part is. (let p = from-served old d part.served (ap (λ l. slice_get l d) (sym same) ∙ get-served new d part is) in sym p.2 ∙ have.each d p.0 p.1);
+pub served_same : (run : Run) (old new : List ReportPart) → map (λ r. r.served) new ≡ map (λ r. r.served) old → HaveServed run old → HaveServed run new
+served_same run old new same have = record {
+  each = λ d part is. (let p = from_served old d part.served (ap (λ l. slice_get l d) (sym same) ∙ get_served new d part is) in sym p.2 ∙ have.each d p.0 p.1);
   broker = have.broker;
 }
 
-pub all-served : (s : Scenario) (dones : List TaskDone) (ends : Ends) (reports new : List ReportPart) (settled : List SettledPage) → AreApart dones ends reports → AreResults s (map answer_of dones) settled
+pub all_served : (s : Scenario) (dones : List TaskDone) (ends : Ends) (reports new : List ReportPart) (settled : List SettledPage) → AreApart dones ends reports → AreResults s (map answer_of dones) settled
     → map (λ r. r.served) new ≡ map (λ r. r.served) reports → HaveServed (run_of s (map answer_of dones)) new
-all-served s dones ends reports new settled apart is same =
-    served-same (run_of s (map answer_of dones)) reports new same
-    (subst (HaveServed (run_of s (map answer_of dones))) (sym (apart.reports_are ∙ map-twice report_of answer_of dones)) (have-served s (map answer_of dones) settled is))
+all_served s dones ends reports new settled apart is same =
+    served_same (run_of s (map answer_of dones)) reports new same
+    (subst (HaveServed (run_of s (map answer_of dones))) (sym (apart.reports_are ∙ map_twice report_of answer_of dones)) (have_served s (map answer_of dones) settled is))
 
 -- ---- a list that was changed in place
 
-pub take-front : {A : Type 0} (n : ℕ) (xs ys : List A) → length xs ≡ n → take n (xs ++ ys) ≡ xs
-take-front zero [] ys is = refl
-take-front zero (x ∷ xs) ys is = absurd (omega (arith, is))
-take-front (suc n) [] ys is = absurd (omega (arith, is))
-take-front (suc n) (x ∷ xs) ys is = ap (λ l. x ∷ l) (take-front n xs ys (omega (arith, is)))
+pub take_front : {A : Type 0} (n : ℕ) (xs ys : List A) → length xs ≡ n → take n (xs ++ ys) ≡ xs
+take_front zero [] ys is = refl
+take_front zero (x ∷ xs) ys is = absurd (omega (arith, is))
+take_front (suc n) [] ys is = absurd (omega (arith, is))
+take_front (suc n) (x ∷ xs) ys is = ap (λ l. x ∷ l) (take_front n xs ys (omega (arith, is)))
 
 -- ---- the report
 

@@ -21,31 +21,31 @@ pub record Reads (digits out : List ℕ) (i greatest : ℕ) : Type 0 where
   pub good : greatest < 16 → bytes_of_pairs digits ≡ behind (take i out) (bytes_of_pairs (drop (2 * i) digits))
   pub bad : 16 ≤ greatest → bytes_of_pairs digits ≡ None
 
-behind-nil : (o : Option (List ℕ)) → o ≡ behind [] o
-behind-nil None = refl
-behind-nil (Some rest) = refl
+behind_nil : (o : Option (List ℕ)) → o ≡ behind [] o
+behind_nil None = refl
+behind_nil (Some rest) = refl
 
-behind-cons : (front : List ℕ) (byte : ℕ) (o : Option (List ℕ)) → behind front (o >>= (λ bytes. Some (byte ∷ bytes))) ≡ behind (front ++ byte ∷ []) o
-behind-cons front byte None = refl
-behind-cons front byte (Some rest) = ap Some (sym (append_assoc front (byte ∷ []) rest))
+behind_cons : (front : List ℕ) (byte : ℕ) (o : Option (List ℕ)) → behind front (o >>= (λ bytes. Some (byte ∷ bytes))) ≡ behind (front ++ byte ∷ []) o
+behind_cons front byte None = refl
+behind_cons front byte (Some rest) = ap Some (sym (append_assoc front (byte ∷ []) rest))
 
 -- what is left of the digits, at a whole pair
-drop-pair : (digits : List ℕ) (i : ℕ) → 2 * i + 1 < length digits → drop (2 * i) digits ≡ get_or digits (2 * i) 0 ∷ get_or digits (2 * i + 1) 0 ∷ drop (2 * (i + 1)) digits
-drop-pair digits i within =
+drop_pair : (digits : List ℕ) (i : ℕ) → 2 * i + 1 < length digits → drop (2 * i) digits ≡ get_or digits (2 * i) 0 ∷ get_or digits (2 * i + 1) 0 ∷ drop (2 * (i + 1)) digits
+drop_pair digits i within =
     let a = drop_more digits (2 * i) 0 (omega arith) in
     let b = drop_more digits (2 * i + 1) 0 (omega arith) in
     let two : 2 * i + 1 + 1 ≡ 2 * (i + 1) = omega arith in
     rw (a, b, two) refl
 
 -- a pair that is a byte
-pairs-byte : (high low byte : ℕ) (rest : List ℕ) → byte_of high low ≡ Some byte → bytes_of_pairs (high ∷ low ∷ rest) ≡ (bytes_of_pairs rest >>= (λ bytes. Some (byte ∷ bytes)))
+pairs_byte : (high low byte : ℕ) (rest : List ℕ) → byte_of high low ≡ Some byte → bytes_of_pairs (high ∷ low ∷ rest) ≡ (bytes_of_pairs rest >>= (λ bytes. Some (byte ∷ bytes)))
 unfolding bytes_of_pairs
-pairs-byte high low byte rest is = rw is refl
+pairs_byte high low byte rest is = rw is refl
 
 -- a pair that is none
-pairs-none : (high low : ℕ) (rest : List ℕ) → byte_of high low ≡ None → bytes_of_pairs (high ∷ low ∷ rest) ≡ None
+pairs_none : (high low : ℕ) (rest : List ℕ) → byte_of high low ≡ None → bytes_of_pairs (high ∷ low ∷ rest) ≡ None
 unfolding bytes_of_pairs
-pairs-none high low rest is = rw is refl
+pairs_none high low rest is = rw is refl
 
 -- a value below 16 is that of a digit
 some_value : (o : Option ℕ) (v : ℕ) → v ≡ unwrap_or o 16 → v < 16 → o ≡ Some v
@@ -76,15 +76,15 @@ no_byte_low high low above = rw (no_value low above) (none_behind (hex_digit_val
 -- at a pair that isn't a byte there is none of all pairs
 reads_none : (digits out : List ℕ) (i : ℕ) → 2 * i + 1 < length digits → byte_of (get_or digits (2 * i) 0) (get_or digits (2 * i + 1) 0) ≡ None → bytes_of_pairs digits ≡ behind (take i out) (bytes_of_pairs (drop (2 * i) digits)) → bytes_of_pairs digits ≡ None
 reads_none digits out i within none so_far =
-    so_far ∙ ap (behind (take i out)) (ap bytes_of_pairs (drop-pair digits i within) ∙ pairs-none (get_or digits (2 * i) 0) (get_or digits (2 * i + 1) 0) (drop (2 * (i + 1)) digits) none)
+    so_far ∙ ap (behind (take i out)) (ap bytes_of_pairs (drop_pair digits i within) ∙ pairs_none (get_or digits (2 * i) 0) (get_or digits (2 * i + 1) 0) (drop (2 * (i + 1)) digits) none)
 
 -- one byte more
 reads_byte : (digits out : List ℕ) (i byte : ℕ) → 2 * i + 1 < length digits → i < length out → byte_of (get_or digits (2 * i) 0) (get_or digits (2 * i + 1) 0) ≡ Some byte → bytes_of_pairs digits ≡ behind (take i out) (bytes_of_pairs (drop (2 * i) digits))
     → bytes_of_pairs digits ≡ behind (take (i + 1) (set out i byte)) (bytes_of_pairs (drop (2 * (i + 1)) digits))
 reads_byte digits out i byte within room is so_far =
     let rest : List ℕ = drop (2 * (i + 1)) digits in
-    so_far ∙ ap (behind (take i out)) (ap bytes_of_pairs (drop-pair digits i within) ∙ pairs-byte (get_or digits (2 * i) 0) (get_or digits (2 * i + 1) 0) byte rest is)
-    ∙ behind-cons (take i out) byte (bytes_of_pairs rest)
+    so_far ∙ ap (behind (take i out)) (ap bytes_of_pairs (drop_pair digits i within) ∙ pairs_byte (get_or digits (2 * i) 0) (get_or digits (2 * i + 1) 0) byte rest is)
+    ∙ behind_cons (take i out) byte (bytes_of_pairs rest)
     ∙ ap (λ (front : List ℕ). behind front (bytes_of_pairs rest)) (sym (take_more_set out i byte room))
 
 -- one pair more
@@ -115,16 +115,16 @@ after_none None bytes none = refl
 after_none (Some b) bytes none = rw none refl
 
 -- an odd number of digits is none
-pub bytes_of_pairs-odd : (digits : List ℕ) → 0 < length digits % 2 → bytes_of_pairs digits ≡ None
+pub bytes_of_pairs_odd : (digits : List ℕ) → 0 < length digits % 2 → bytes_of_pairs digits ≡ None
 unfolding bytes_of_pairs
-bytes_of_pairs-odd [] odd = absurd (omega arith)
-bytes_of_pairs-odd (digit ∷ []) odd = refl
-bytes_of_pairs-odd (high ∷ low ∷ rest) odd = after_none (byte_of high low) (bytes_of_pairs rest) (bytes_of_pairs-odd rest (omega arith))
+bytes_of_pairs_odd [] odd = absurd (omega arith)
+bytes_of_pairs_odd (digit ∷ []) odd = refl
+bytes_of_pairs_odd (high ∷ low ∷ rest) odd = after_none (byte_of high low) (bytes_of_pairs rest) (bytes_of_pairs_odd rest (omega arith))
 
 -- nothing is read yet
 pub reads_start : (digits out : List ℕ) → Reads digits out 0 0
 reads_start digits out = record {
-  good = λ below. behind-nil (bytes_of_pairs digits);
+  good = λ below. behind_nil (bytes_of_pairs digits);
   bad = λ above. absurd (omega arith);
 }
 
@@ -151,8 +151,8 @@ pairs_further digits i high low within high_is low_is good also =
     let h = digit_known (hex_digit_value (get_or digits (2 * i) 0)) high high_is good in
     let l = digit_known (hex_digit_value (get_or digits (2 * i + 1) 0)) low low_is also in
     let byte : byte_of (get_or digits (2 * i) 0) (get_or digits (2 * i + 1) 0) ≡ Some (high * 16 + low) = rw (h, l) refl in
-    ap (λ (l : List ℕ). is_some (bytes_of_pairs l)) (drop-pair digits i within)
-    ∙ ap (is_some {T = List ℕ}) (pairs-byte (get_or digits (2 * i) 0) (get_or digits (2 * i + 1) 0) (high * 16 + low) rest byte)
+    ap (λ (l : List ℕ). is_some (bytes_of_pairs l)) (drop_pair digits i within)
+    ∙ ap (is_some {T = List ℕ}) (pairs_byte (get_or digits (2 * i) 0) (get_or digits (2 * i + 1) 0) (high * 16 + low) rest byte)
     ∙ one_more (high * 16 + low) (bytes_of_pairs rest)
 
 -- a pair with a byte that isn't a digit isn't a byte
@@ -164,8 +164,8 @@ pairs_fail digits i high low within high_is low_is bad =
       | inl is ↦ no_byte_high (get_or digits (2 * i) 0) (get_or digits (2 * i + 1) 0) (omega arith)
       | inr is ↦ no_byte_low (get_or digits (2 * i) 0) (get_or digits (2 * i + 1) 0) (omega arith)
     ] in
-    ap (λ (l : List ℕ). is_some (bytes_of_pairs l)) (drop-pair digits i within)
-    ∙ ap (is_some {T = List ℕ}) (pairs-none (get_or digits (2 * i) 0) (get_or digits (2 * i + 1) 0) (drop (2 * (i + 1)) digits) none)
+    ap (λ (l : List ℕ). is_some (bytes_of_pairs l)) (drop_pair digits i within)
+    ∙ ap (is_some {T = List ℕ}) (pairs_none (get_or digits (2 * i) 0) (get_or digits (2 * i + 1) 0) (drop (2 * (i + 1)) digits) none)
 
 -- no digit is left
 pub pairs_end : (digits : List ℕ) (i : ℕ) → length digits ≤ 2 * i → is_some (bytes_of_pairs (drop (2 * i) digits)) ≡ true

@@ -65,7 +65,7 @@ pub fn bytes_of(alloc: Global, word: &[u8]) -> Result<Vec<u8>, ByteError>
     ensures bad { (result ≡ Err ByteError.BadHex) ↔ (byte_string word.now ≡ None) }
 {
     let mut bytes = Vec::new(alloc);
-    match push_bytes(&mut bytes, word, usize::MAX) {
+    match push_bytes_of(&mut bytes, word, usize::MAX) {
         Ok(()) => Ok(bytes),
         Err(PushError::BadHex) => Err(ByteError::BadHex),
         // More than `usize::MAX` bytes never fit in memory.
@@ -81,7 +81,7 @@ pub fn bytes_of(alloc: Global, word: &[u8]) -> Result<Vec<u8>, ByteError>
 /// `BadHex` if and only if the word isn't a byte string, and `TooManyBytes` if and only if it is
 /// one of more than `most` bytes, however much memory there is; `Memory` if memory runs out. After
 /// an error `out` has the bytes that it had.
-pub fn push_bytes(out: &mut Vec<u8>, word: &[u8], most: usize) -> Result<(), PushError>
+pub fn push_bytes_of(out: &mut Vec<u8>, word: &[u8], most: usize) -> Result<(), PushError>
     ensures ok { OnOk result (Gains (at_most most (byte_string word.now)) out.old.items out.new.items) }
     ensures within { OnOk result (length out.new.items ≤ length out.old.items + most) }
     ensures bad { IfErr result (λ e. IsPushRefusal e (at_most most (byte_string word.now))) }

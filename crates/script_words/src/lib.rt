@@ -13,7 +13,7 @@ mod place;
 pub mod text;
 mod words;
 
-pub use byte_string::{ByteError, PushError, bytes_of, push_bytes};
+pub use byte_string::{ByteError, PushError, bytes_of, push_bytes_of};
 pub use lines::{LineReader, MOST_LINES, NextLine, TooManyLines};
 pub use number::{is_number, parse_number};
 pub use place::place_in;

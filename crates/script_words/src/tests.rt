@@ -42,21 +42,24 @@ fn byte_strings_spell_their_bytes(rt: HostRuntime) -> Result<(), Fail> {
 #[test]
 fn bytes_stand_behind_those_before(rt: HostRuntime) -> Result<(), Fail> {
     let mut bytes = Vec::from_slice(rt.alloc(), b"a")?;
-    push_bytes(&mut bytes, b"6263", 2)?;
-    assert_eq!(rt; push_bytes(&mut bytes, b"646x", 2), Err(PushError::BadHex));
+    push_bytes_of(&mut bytes, b"6263", 2)?;
     assert_eq!(rt;
-        push_bytes(&mut bytes, b"64*3", 2),
-        Err(PushError::TooManyBytes)
-    );
-    assert_eq!(rt;
-        push_bytes(&mut bytes, b"646566", 2),
-        Err(PushError::TooManyBytes)
-    );
-    assert_eq!(rt;
-        push_bytes(&mut bytes, b"64656x", 2),
+        push_bytes_of(&mut bytes, b"646x", 2),
         Err(PushError::BadHex)
     );
-    push_bytes(&mut bytes, b"64*2", 2)?;
+    assert_eq!(rt;
+        push_bytes_of(&mut bytes, b"64*3", 2),
+        Err(PushError::TooManyBytes)
+    );
+    assert_eq!(rt;
+        push_bytes_of(&mut bytes, b"646566", 2),
+        Err(PushError::TooManyBytes)
+    );
+    assert_eq!(rt;
+        push_bytes_of(&mut bytes, b"64656x", 2),
+        Err(PushError::BadHex)
+    );
+    push_bytes_of(&mut bytes, b"64*2", 2)?;
     assert!(rt; bytes.as_slice() == b"abcdd".as_slice());
     Ok(())
 }

@@ -51,9 +51,9 @@ every_other_over first [] more = refl
 every_other_over true (x ∷ piece) more = ap (λ l. x ∷ l) (every_other_over false piece more)
 every_other_over false (x ∷ piece) more = every_other_over true piece more
 
-turned-not : (first : Bool) (piece : List ℕ) → turned (not first) piece ≡ not (turned first piece)
-turned-not first [] = refl
-turned-not first (x ∷ piece) = turned-not (not first) piece
+turned_not : (first : Bool) (piece : List ℕ) → turned (not first) piece ≡ not (turned first piece)
+turned_not first [] = refl
+turned_not first (x ∷ piece) = turned_not (not first) piece
 
 -- one byte more makes an odd number even, and an even one odd
 odd_suc : (n : ℕ) → nat_eq (suc n % 2) 1 ≡ not (nat_eq (n % 2) 1)
@@ -78,7 +78,7 @@ split_owed : (first : Bool) (piece more : List ℕ)
     → splits first (piece ++ more) ≡ after_outputs (every_other first piece) (every_other (not first) piece) (splits (turned first piece) more)
 split_owed first piece more =
     let e : every_other (not first) (piece ++ more) ≡ every_other (not first) piece ++ every_other (not (turned first piece)) more =
-    every_other_over (not first) piece more ∙ ap (λ b. every_other (not first) piece ++ every_other b more) (turned-not first piece) in
+    every_other_over (not first) piece more ∙ ap (λ b. every_other (not first) piece ++ every_other b more) (turned_not first piece) in
     λ i. record { stdout = every_other_over first piece more i; stderr = e i; code = pos 0 }
 
 same_turn : (to_stderr odd : Bool) → beq (not (not to_stderr)) odd ≡ not (not (beq to_stderr odd))

@@ -7,7 +7,7 @@ use Rattle.std.proofs.lemmas.Bool.{eqb-true, eqb-false, ltb-true, leb-true, le-l
 use Rattle.std.proofs.lemmas.Fmt.{first_decimal, decimal_digit, digits_decimal, digits_value-decimal, decimal_is_IsNumeral, decimal-digits_value}
 use Rattle.std.proofs.lemmas.List.{take-append-drop}
 use Rattle.std.proofs.lemmas.Slice.Eq.{bytes_eq-Decides}
-use Rattle.list_laws.proofs.Tests.{decimal-numerals}
+use Rattle.list_laws.proofs.Tests.{decimal_numerals}
 use Rattle.script_words.specs.Numbers.{number_of}
 use Rattle.service_gate.specs.ServiceResult.{service, number_after, most_first, most_exit, IsNumbered, IsName}
 use Rattle.service_gate.specs.Triple.{Triple}
@@ -37,7 +37,7 @@ spelled most text n small is =
     let low : digits_value 10 text ≤ most = leb-true (digits_value 10 text) most s.low_is in
     let some : 0 < length text = ltb-true 0 (length text) s.some_is in
     let first : get_or text 0 0 ≡ 48 → length text ≡ 1 = λ zero. ⊎_elim (λ (one : (length text == 1) ≡ true). eqb-true (length text) 1 one) (λ (other : (slice_index text 0 == 48) ≡ false). absurd (eqb-false (get_or text 0 0) 48 other zero)) s.first_is in
-    (omega (arith, low, s.value_is), sym (decimal-digits_value decimal-numerals text s.digits_is some first (omega (arith, low))) ∙ ap decimal s.value_is)
+    (omega (arith, low, s.value_is), sym (decimal-digits_value decimal_numerals text s.digits_is some first (omega (arith, low))) ∙ ap decimal s.value_is)
 
 -- a name that is no such text has no number
 pub unnumbered : (prefix : List ℕ) (most : ℕ) (name : List ℕ) → most < 2 ^ 64 → ¬ IsNumbered prefix most name → number_after prefix most name ≡ None
@@ -67,15 +67,15 @@ all_tests true true one zero false value d s f l = cc
 all_tests true false one zero low value d s f l = cc
 all_tests false some one zero low value d s f l = cc
 
-pub number_of-decimal : (most n : ℕ) → most < 2 ^ 64 → n ≤ most → number_of most (decimal n) ≡ Some n
-number_of-decimal most n small le =
-    let value : digits_value 10 (decimal n) ≡ n = digits_value-decimal decimal-numerals n (omega arith) in
+pub number_of_decimal : (most n : ℕ) → most < 2 ^ 64 → n ≤ most → number_of most (decimal n) ≡ Some n
+number_of_decimal most n small le =
+    let value : digits_value 10 (decimal n) ≡ n = digits_value-decimal decimal_numerals n (omega arith) in
     let some : nat_lt 0 (length (decimal n)) ≡ true = lt-ltb 0 (length (decimal n)) ((decimal_is_IsNumeral n (omega arith)).0.0) in
     let first : ((length (decimal n) == 1) ≡ true) ⊎ ((slice_index (decimal n) 0 == 48) ≡ false) = ⊎_elim
     (λ (zero : n ≡ 0). inl (ap (λ l. length l == 1) (ap decimal zero ∙ decimal_digit 0 (lit< tt))))
     (λ (above : 0 < n). let high = first_decimal n above (omega arith) in inr (ne_eqb (slice_index (decimal n) 0) 48 (λ e. omega (arith, high, e)))) (zero_or_more n) in
     all_tests (all_ascii_digits (decimal n)) _ _ (slice_index (decimal n) 0 == 48) (nat_le (digits_value 10 (decimal n)) most) (digits_value 10 (decimal n))
-    (digits_decimal decimal-numerals n (omega arith)) some first (le-leb (digits_value 10 (decimal n)) most (omega (arith, value)))
+    (digits_decimal decimal_numerals n (omega arith)) some first (le-leb (digits_value 10 (decimal n)) most (omega (arith, value)))
     ∙ ap Some value
   where
     zero_or_more : (k : ℕ) → (k ≡ 0) ⊎ (0 < k)

@@ -14,62 +14,62 @@ abbrev has_begun : Session → Bool
 has_begun NotBegun = false
 has_begun session = true
 
-has-not : (s : Session) → has_begun s ≡ false → s ≡ NotBegun
-has-not NotBegun is = refl
-has-not (CallsWith at) is = cc
-has-not AwaitsPage is = cc
-has-not (ServesWith at) is = cc
-has-not (EndedWith end) is = cc
+has_not : (s : Session) → has_begun s ≡ false → s ≡ NotBegun
+has_not NotBegun is = refl
+has_not (CallsWith at) is = cc
+has_not AwaitsPage is = cc
+has_not (ServesWith at) is = cc
+has_not (EndedWith end) is = cc
 
 -- a session that takes its turn has begun still
-still-begun : (old new : Session) → TakesTurn old new → old ≢ NotBegun → has_begun new ≡ true
-still-begun old new (HadNotBegun was is) begun = absurd (begun was)
-still-begun old new (CallMade before now turned was is turn undecided) begun = ap has_begun is
-still-begun old new (ServingMade before now turned was is turn undecided) begun = ap has_begun is
-still-begun old new (PageCame before now turned was pace is turn undecided) begun = ap has_begun is
-still-begun old new (PageAwaited was is) begun = ap has_begun is
-still-begun old new (IsOver ends) begun = ap has_begun ends.is
-still-begun old new (WasOver end was is) begun = ap has_begun is
+still_begun : (old new : Session) → TakesTurn old new → old ≢ NotBegun → has_begun new ≡ true
+still_begun old new (HadNotBegun was is) begun = absurd (begun was)
+still_begun old new (CallMade before now turned was is turn undecided) begun = ap has_begun is
+still_begun old new (ServingMade before now turned was is turn undecided) begun = ap has_begun is
+still_begun old new (PageCame before now turned was pace is turn undecided) begun = ap has_begun is
+still_begun old new (PageAwaited was is) begun = ap has_begun is
+still_begun old new (IsOver ends) begun = ap has_begun ends.is
+still_begun old new (WasOver end was is) begun = ap has_begun is
 
-one-free : (p : PagePlace) (s : Session) → length (place_if_free p s) ≡ (if has_begun s then 0 else 1)
-one-free p NotBegun = refl
-one-free p (CallsWith at) = refl
-one-free p AwaitsPage = refl
-one-free p (ServesWith at) = refl
-one-free p (EndedWith end) = refl
+one_free : (p : PagePlace) (s : Session) → length (place_if_free p s) ≡ (if has_begun s then 0 else 1)
+one_free p NotBegun = refl
+one_free p (CallsWith at) = refl
+one_free p AwaitsPage = refl
+one_free p (ServesWith at) = refl
+one_free p (EndedWith end) = refl
 
-more-free : (p : PagePlace) (s : Session) (places : List PagePlace) (sessions : List Session) (b : Bool) → has_begun s ≡ b → length (places_free (p ∷ places) (s ∷ sessions)) ≡ (if b then 0 else 1) + length (places_free places sessions)
-more-free p s places sessions b is =
-    let here : length (place_if_free p s) ≡ (if b then 0 else 1) = one-free p s ∙ ap (λ (x : Bool). if x then 0 else 1) is in
+more_free : (p : PagePlace) (s : Session) (places : List PagePlace) (sessions : List Session) (b : Bool) → has_begun s ≡ b → length (places_free (p ∷ places) (s ∷ sessions)) ≡ (if b then 0 else 1) + length (places_free places sessions)
+more_free p s places sessions b is =
+    let here : length (place_if_free p s) ≡ (if b then 0 else 1) = one_free p s ∙ ap (λ (x : Bool). if x then 0 else 1) is in
     length-append (place_if_free p s) (places_free places sessions) ∙ ap (λ (n : ℕ). n + length (places_free places sessions)) here
 
 -- those that had begun have begun still
 abbrev StillBegun : List Session → List Session → Type 0
 StillBegun old new = (i : ℕ) → has_begun (session_at old i) ≡ true → has_begun (session_at new i) ≡ true
 
-fewer-free : (places : List PagePlace) (old new : List Session) → length old ≡ length places → length new ≡ length places → StillBegun old new → length (places_free places new) ≤ length (places_free places old)
-fewer-free [] old new long long' still = omega arith
-fewer-free (p ∷ places) [] new long long' still = absurd (omega (arith, long))
-fewer-free (p ∷ places) (a ∷ old) [] long long' still = absurd (omega (arith, long'))
-fewer-free (p ∷ places) (a ∷ old) (b ∷ new) long long' still = by_heads (has_begun a) refl (has_begun b) refl (fewer-free places old new (omega (arith, long)) (omega (arith, long')) (λ i. still (suc i)))
+fewer_free : (places : List PagePlace) (old new : List Session) → length old ≡ length places → length new ≡ length places → StillBegun old new → length (places_free places new) ≤ length (places_free places old)
+fewer_free [] old new long long' still = omega arith
+fewer_free (p ∷ places) [] new long long' still = absurd (omega (arith, long))
+fewer_free (p ∷ places) (a ∷ old) [] long long' still = absurd (omega (arith, long'))
+fewer_free (p ∷ places) (a ∷ old) (b ∷ new) long long' still = by_heads (has_begun a) refl (has_begun b) refl (fewer_free places old new (omega (arith, long)) (omega (arith, long')) (λ i. still (suc i)))
   where
     by_heads : (x : Bool) → has_begun a ≡ x → (y : Bool) → has_begun b ≡ y → length (places_free places new) ≤ length (places_free places old) → length (places_free (p ∷ places) (b ∷ new)) ≤ length (places_free (p ∷ places) (a ∷ old))
-    by_heads true is true is' rest = omega (arith, more-free p a places old true is, more-free p b places new true is', rest)
+    by_heads true is true is' rest = omega (arith, more_free p a places old true is, more_free p b places new true is', rest)
     by_heads true is false is' rest = absurd (let bad : true ≡ false = sym (still 0 is) ∙ is' in cc)
-    by_heads false is true is' rest = omega (arith, more-free p a places old false is, more-free p b places new true is', rest)
-    by_heads false is false is' rest = omega (arith, more-free p a places old false is, more-free p b places new false is', rest)
+    by_heads false is true is' rest = omega (arith, more_free p a places old false is, more_free p b places new true is', rest)
+    by_heads false is false is' rest = omega (arith, more_free p a places old false is, more_free p b places new false is', rest)
 
 -- if as many are free as before, the same ones are
-same-free : (places : List PagePlace) (old new : List Session) → length old ≡ length places → length new ≡ length places → StillBegun old new → length (places_free places new) ≡ length (places_free places old)
+same_free : (places : List PagePlace) (old new : List Session) → length old ≡ length places → length new ≡ length places → StillBegun old new → length (places_free places new) ≡ length (places_free places old)
     → (i : ℕ) → has_begun (session_at old i) ≡ false → has_begun (session_at new i) ≡ false
-same-free [] [] [] long long' still same i shut = refl
-same-free [] (a ∷ old) new long long' still same i shut = absurd (omega (arith, long))
-same-free [] [] (b ∷ new) long long' still same i shut = absurd (omega (arith, long'))
-same-free (p ∷ places) [] new long long' still same i shut = absurd (omega (arith, long))
-same-free (p ∷ places) (a ∷ old) [] long long' still same i shut = absurd (omega (arith, long'))
-same-free (p ∷ places) (a ∷ old) (b ∷ new) long long' still same i shut =
-    by_heads (has_begun a) refl (has_begun b) refl (fewer-free places old new (omega (arith, long)) (omega (arith, long')) (λ j. still (suc j))) i shut
-    (λ rest j. same-free places old new (omega (arith, long)) (omega (arith, long')) (λ k. still (suc k)) rest j)
+same_free [] [] [] long long' still same i shut = refl
+same_free [] (a ∷ old) new long long' still same i shut = absurd (omega (arith, long))
+same_free [] [] (b ∷ new) long long' still same i shut = absurd (omega (arith, long'))
+same_free (p ∷ places) [] new long long' still same i shut = absurd (omega (arith, long))
+same_free (p ∷ places) (a ∷ old) [] long long' still same i shut = absurd (omega (arith, long'))
+same_free (p ∷ places) (a ∷ old) (b ∷ new) long long' still same i shut =
+    by_heads (has_begun a) refl (has_begun b) refl (fewer_free places old new (omega (arith, long)) (omega (arith, long')) (λ j. still (suc j))) i shut
+    (λ rest j. same_free places old new (omega (arith, long)) (omega (arith, long')) (λ k. still (suc k)) rest j)
   where
     at_place : has_begun a ≡ has_begun b → ((j : ℕ) → has_begun (session_at old j) ≡ false → has_begun (session_at new j) ≡ false) → (j : ℕ) → has_begun (session_at (a ∷ old) j) ≡ false → has_begun (session_at (b ∷ new) j) ≡ false
     at_place heads rest zero is = sym heads ∙ is
@@ -77,13 +77,13 @@ same-free (p ∷ places) (a ∷ old) (b ∷ new) long long' still same i shut =
 
     by_heads : (x : Bool) → has_begun a ≡ x → (y : Bool) → has_begun b ≡ y → length (places_free places new) ≤ length (places_free places old) → (i : ℕ) → has_begun (session_at (a ∷ old) i) ≡ false
         → (length (places_free places new) ≡ length (places_free places old) → (j : ℕ) → has_begun (session_at old j) ≡ false → has_begun (session_at new j) ≡ false) → has_begun (session_at (b ∷ new) i) ≡ false
-    by_heads true is true is' fewer i shut rest = at_place (is ∙ sym is') (rest (omega (arith, more-free p a places old true is, more-free p b places new true is', same))) i shut
+    by_heads true is true is' fewer i shut rest = at_place (is ∙ sym is') (rest (omega (arith, more_free p a places old true is, more_free p b places new true is', same))) i shut
     by_heads true is false is' fewer i shut rest = absurd (let bad : true ≡ false = sym (still 0 is) ∙ is' in cc)
-    by_heads false is true is' fewer i shut rest = absurd (omega (arith, more-free p a places old false is, more-free p b places new true is', same, fewer))
-    by_heads false is false is' fewer i shut rest = at_place (is ∙ sym is') (rest (omega (arith, more-free p a places old false is, more-free p b places new false is', same))) i shut
+    by_heads false is true is' fewer i shut rest = absurd (omega (arith, more_free p a places old false is, more_free p b places new true is', same, fewer))
+    by_heads false is false is' fewer i shut rest = at_place (is ∙ sym is') (rest (omega (arith, more_free p a places old false is, more_free p b places new false is', same))) i shut
 
-pub no-session-begins : NoSessionBegins
-no-session-begins old new tells tells' plan got long long' turns i shut = has-not (session_at new.sessions i) (same-free old.plan.places old.sessions new.sessions long long' still same i (ap has_begun shut))
+pub no_session_begins_lem : NoSessionBegins
+no_session_begins_lem old new tells tells' plan got long long' turns i shut = has_not (session_at new.sessions i) (same_free old.plan.places old.sessions new.sessions long long' still same i (ap has_begun shut))
   where
     answered : answers_so_far new ≡ answers_so_far old
     answered = ap (λ (p : AgentPlan). answers p (hears p.version to_agent new.control.got).messages) plan ∙ ap (λ (bytes : List ℕ). answers old.plan (hears old.plan.version to_agent bytes).messages) got
@@ -91,8 +91,8 @@ no-session-begins old new tells tells' plan got long long' turns i shut = has-no
     same : length (places_free old.plan.places new.sessions) ≡ length (places_free old.plan.places old.sessions)
     same = ap length (sym (ap (λ (p : AgentPlan). places_free p.places new.sessions) plan) ∙ (sym tells'.acts.begun ∙ (ap (λ a. a.unused) answered ∙ tells.acts.begun)))
 
-    begun-not : (s : Session) → has_begun s ≡ true → s ≢ NotBegun
-    begun-not s is shut = let bad : true ≡ false = sym is ∙ ap has_begun shut in cc
+    begun_not : (s : Session) → has_begun s ≡ true → s ≢ NotBegun
+    begun_not s is shut = let bad : true ≡ false = sym is ∙ ap has_begun shut in cc
 
     still : (j : ℕ) → has_begun (session_at old.sessions j) ≡ true → has_begun (session_at new.sessions j) ≡ true
-    still j is = let begun = begun-not (session_at old.sessions j) is in still-begun (session_at old.sessions j) (session_at new.sessions j) (turns j begun) begun
+    still j is = let begun = begun_not (session_at old.sessions j) is in still_begun (session_at old.sessions j) (session_at new.sessions j) (turns j begun) begun

@@ -12,7 +12,7 @@ use Rattle.qrexec_frame.specs.Grammar.{Fault}
 use Rattle.qrexec_frame.specs.Fronts.{front, reading}
 use Rattle.qrexec_frame.specs.Laws.{IsGood}
 use Rattle.qrexec_frame.specs.Streams.{Placed, Ending, Rest, messages}
-use Rattle.qrexec_frame.proofs.StreamLaws.{reads-all}
+use Rattle.qrexec_frame.proofs.StreamLaws.{reads_all}
 use Rattle.qrexec_frame.proofs.GrammarLaws.{is_prefix_code}
 use Rattle.qrexec_frame.proofs.WrittenLaws.{is_read_again}
 use Rattle.task_duties.specs.Hearing.{Heard, hears, hears_on, allowed, first_fault, to_agent, to_broker}
@@ -22,7 +22,7 @@ use Rattle.control_port.specs.declared.talk.Talker.{Talker}
 use Rattle.control_port.specs.declared.talk.Talker.TheVariants.{Agent, Broker}
 use Rattle.standstill_laws.specs.Page.{StandsStill}
 use Rattle.standstill_laws.specs.Control.{Hears, AllIsHeard}
-use Rattle.standstill_laws.proofs.PageLaws.{stands-still}
+use Rattle.standstill_laws.proofs.PageLaws.{stands_still}
 use Rattle.qrexec_data.specs.Laws.{IsVersion}
 
 -- ---- a stream of messages that may be said
@@ -31,60 +31,60 @@ use Rattle.qrexec_data.specs.Laws.{IsVersion}
 abbrev GoOn : (Message → Bool) → Type 0
 GoOn may = (m : Message) → may m ≡ true → GoesOn Control m
 
-to-broker-goes : GoOn to_broker
-to-broker-goes (Trigger3 target ident service) may = refl
-to-broker-goes (Trigger target ident service) may = refl
-to-broker-goes (Terminated domain port) may = refl
-to-broker-goes (Hello version) may = cc
-to-broker-goes (Stdin bytes) may = cc
-to-broker-goes (Stdout bytes) may = cc
-to-broker-goes (Stderr bytes) may = cc
-to-broker-goes (ExitCode code) may = cc
-to-broker-goes (Exec domain port line) may = cc
-to-broker-goes (JustExec domain port line) may = cc
-to-broker-goes (Connect domain port ident) may = cc
-to-broker-goes (Refused ident) may = cc
+to_broker_goes : GoOn to_broker
+to_broker_goes (Trigger3 target ident service) may = refl
+to_broker_goes (Trigger target ident service) may = refl
+to_broker_goes (Terminated domain port) may = refl
+to_broker_goes (Hello version) may = cc
+to_broker_goes (Stdin bytes) may = cc
+to_broker_goes (Stdout bytes) may = cc
+to_broker_goes (Stderr bytes) may = cc
+to_broker_goes (ExitCode code) may = cc
+to_broker_goes (Exec domain port line) may = cc
+to_broker_goes (JustExec domain port line) may = cc
+to_broker_goes (Connect domain port ident) may = cc
+to_broker_goes (Refused ident) may = cc
 
-to-agent-goes : GoOn to_agent
-to-agent-goes (Connect domain port ident) may = refl
-to-agent-goes (Refused ident) may = refl
-to-agent-goes (Exec domain port line) may = refl
-to-agent-goes (JustExec domain port line) may = refl
-to-agent-goes (Hello version) may = cc
-to-agent-goes (Stdin bytes) may = cc
-to-agent-goes (Stdout bytes) may = cc
-to-agent-goes (Stderr bytes) may = cc
-to-agent-goes (ExitCode code) may = cc
-to-agent-goes (Terminated domain port) may = cc
-to-agent-goes (Trigger3 target ident service) may = cc
-to-agent-goes (Trigger target ident service) may = cc
+to_agent_goes : GoOn to_agent
+to_agent_goes (Connect domain port ident) may = refl
+to_agent_goes (Refused ident) may = refl
+to_agent_goes (Exec domain port line) may = refl
+to_agent_goes (JustExec domain port line) may = refl
+to_agent_goes (Hello version) may = cc
+to_agent_goes (Stdin bytes) may = cc
+to_agent_goes (Stdout bytes) may = cc
+to_agent_goes (Stderr bytes) may = cc
+to_agent_goes (ExitCode code) may = cc
+to_agent_goes (Terminated domain port) may = cc
+to_agent_goes (Trigger3 target ident service) may = cc
+to_agent_goes (Trigger target ident service) may = cc
 
-all-good : (may : Message → Bool) → GoOn may → (said : List Message) → Each (λ m. (may m ≡ true) × IsSpellable m) said → Each (IsGood Control) said
-all-good may go [] each = tt
-all-good may go (m ∷ said) each = ((each.0.1, go m each.0.0), all-good may go said each.1)
+all_good : (may : Message → Bool) → GoOn may → (said : List Message) → Each (λ m. (may m ≡ true) × IsSpellable m) said → Each (IsGood Control) said
+all_good may go [] each = tt
+all_good may go (m ∷ said) each = ((each.0.1, go m each.0.0), all_good may go said each.1)
 
-all-allowed : (may : Message → Bool) (said : List Message) → Each (λ m. (may m ≡ true) × IsSpellable m) said → (placed : List (Placed Message)) → map (λ p. p.message) placed ≡ said
+all_allowed : (may : Message → Bool) (said : List Message) → Each (λ m. (may m ≡ true) × IsSpellable m) said → (placed : List (Placed Message)) → map (λ p. p.message) placed ≡ said
     → (allowed may placed ≡ said) × (first_fault may placed (Rest 0) ≡ None)
-all-allowed may [] each [] is = (refl, refl)
-all-allowed may [] each (p ∷ placed) is = cc
-all-allowed may (m ∷ said) each [] is = cc
-all-allowed may (m ∷ said) each (p ∷ placed) is =
+all_allowed may [] each [] is = (refl, refl)
+all_allowed may [] each (p ∷ placed) is = cc
+all_allowed may (m ∷ said) each [] is = cc
+all_allowed may (m ∷ said) each (p ∷ placed) is =
     let this : p.message ≡ m = cc in
     let more : map (λ (q : Placed Message). q.message) placed ≡ said = cc in
     let yes : may p.message ≡ true = ap may this ∙ each.0.0 in
-    let rest = all-allowed may said each.1 placed more in
+    let rest = all_allowed may said each.1 placed more in
     rw yes (rw (this, rest.0) refl, rest.1)
 
 -- who got all of it has heard all
-hears-all : (own other : ℕ) (may : Message → Bool) → GoOn may → IsVersion other → (said : List Message) → Each (λ m. (may m ≡ true) × IsSpellable m) said
+hears_all : (own other : ℕ) (may : Message → Bool) → GoOn may → IsVersion other → (said : List Message) → Each (λ m. (may m ≡ true) × IsSpellable m) said
     → hears own may (flat_map written (Hello other ∷ said)) ≡ record { version = Some (min own other); messages = said; fault = None }
-hears-all own other may go version said each = by_placed (reading Control stream).placed (reading Control stream).ending all.0 all.1
+hears_all own other may go version said each = by_placed (reading Control stream).placed (reading Control stream).ending all.0 all.1
   where
     stream : List ℕ
     stream = flat_map written (Hello other ∷ said)
 
     all : (messages (reading Control stream) ≡ Hello other ∷ said) × ((reading Control stream).ending ≡ Rest 0)
-    all = reads-all (front Control) written (IsGood Control) (is_prefix_code Control) (is_read_again Control) (Hello other ∷ said) (((tt, version.small), refl), all-good may go said each) 0
+    all = reads_all (front Control) written (IsGood Control) (is_prefix_code Control) (is_read_again Control) (Hello other ∷ said) (((tt, version.small), refl), all_good may go said each) 0
 
     by_placed : (placed : List (Placed Message)) (e : Ending Fault) → map (λ p. p.message) placed ≡ Hello other ∷ said → e ≡ Rest 0
         → hears_on own may placed e ≡ record { version = Some (min own other); messages = said; fault = None }
@@ -94,19 +94,19 @@ hears-all own other may go version said each = by_placed (reading Control stream
         let more : map (λ (q : Placed Message). q.message) placed ≡ said = cc in
         let two = version.least in
         let big : nat_lt other 2 ≡ false = grind (arith, nat_tests) in
-        let done = all-allowed may said each placed more in
+        let done = all_allowed may said each placed more in
         rw (hello, big, rest, done.0, done.1) refl
 
 -- ---- one way of a control page
 
 -- what one side sent, the other got: it heard all, or nothing if nothing was sent
-one-way : (may : Message → Bool) → GoOn may → (from at : PortState) (said heard : List Message) (sent : List ℕ) → IsVersion from.own → Each (λ m. (may m ≡ true) × IsSpellable m) said
+one_way : (may : Message → Bool) → GoOn may → (from at : PortState) (said heard : List Message) (sent : List ℕ) → IsVersion from.own → Each (λ m. (may m ≡ true) × IsSpellable m) said
     → SentWhole from.greeted from.own said sent → hears at.own may sent ≡ record { version = at.version; messages = heard; fault = at.fault } → Hears from.greeted from at said heard
-one-way may go from at said heard sent version each whole heard_is = by_greeted from.greeted whole
+one_way may go from at said heard sent version each whole heard_is = by_greeted from.greeted whole
   where
     by_greeted : (g : Bool) → SentWhole g from.own said sent → Hears g from at said heard
     by_greeted true whole =
-        let all = hears-all at.own from.own may go version said each in
+        let all = hears_all at.own from.own may go version said each in
         let same : record { version = at.version; messages = heard; fault = at.fault } ≡ record { version = Some (min at.own from.own); messages = said; fault = None } =
         sym heard_is ∙ ap (λ (bytes : List ℕ). hears at.own may bytes) whole ∙ all in
         (ap (λ (h : Heard). h.messages) same, ap (λ (h : Heard). h.version) same, ap (λ (h : Heard). h.fault) same)
@@ -115,11 +115,11 @@ one-way may go from at said heard sent version each whole heard_is = by_greeted 
         sym heard_is ∙ ap (λ (bytes : List ℕ). hears at.own may bytes) whole.0 in
         (ap (λ (h : Heard). h.messages) same, ap (λ (h : Heard). h.version) same, ap (λ (h : Heard). h.fault) same)
 
-pub all-is-heard : AllIsHeard
-all-is-heard core a b said_a heard_a said_b heard_b l server client ta tb = (up, down)
+pub all_is_heard_lem : AllIsHeard
+all_is_heard_lem core a b said_a heard_a said_b heard_b l server client ta tb = (up, down)
   where
     page : StandsStill core
-    page = stands-still core l server client
+    page = stands_still core l server client
 
     up : Hears a.greeted a b said_a heard_b
     up =
@@ -127,7 +127,7 @@ all-is-heard core a b said_a heard_a said_b heard_b l server client ta tb = (up,
         let got : b.end.side.got ≡ a.end.side.sent = ap (λ (x : Side). x.got) tb.end ∙ page.client_got ∙ sym (ap (λ (x : Side). x.sent) ta.end) in
         let all : hears b.own (may_hear Broker) a.end.side.sent ≡ record { version = b.version; messages = heard_b; fault = b.fault } =
         ap (λ (bytes : List ℕ). hears b.own (may_hear Broker) bytes) (sym got) ∙ ap (λ (t : Talker). hears b.own (may_hear t) b.end.side.got) (sym tb.talker_is) ∙ tb.hears in
-        one-way to_broker to-broker-goes a b said_a heard_b a.end.side.sent ta.own each ta.says.whole all
+        one_way to_broker to_broker_goes a b said_a heard_b a.end.side.sent ta.own each ta.says.whole all
 
     down : Hears b.greeted b a said_b heard_a
     down =
@@ -135,4 +135,4 @@ all-is-heard core a b said_a heard_a said_b heard_b l server client ta tb = (up,
         let got : a.end.side.got ≡ b.end.side.sent = ap (λ (x : Side). x.got) ta.end ∙ page.server_got ∙ sym (ap (λ (x : Side). x.sent) tb.end) in
         let all : hears a.own (may_hear Agent) b.end.side.sent ≡ record { version = a.version; messages = heard_a; fault = a.fault } =
         ap (λ (bytes : List ℕ). hears a.own (may_hear Agent) bytes) (sym got) ∙ ap (λ (t : Talker). hears a.own (may_hear t) a.end.side.got) (sym ta.talker_is) ∙ ta.hears in
-        one-way to_agent to-agent-goes b a said_b heard_a b.end.side.sent tb.own each tb.says.whole all
+        one_way to_agent to_agent_goes b a said_b heard_a b.end.side.sent tb.own each tb.says.whole all

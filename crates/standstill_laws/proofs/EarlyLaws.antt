@@ -6,9 +6,9 @@ use Rattle.std.proofs.lemmas.List.{append-nil}
 use Rattle.std.proofs.lemmas.List.Elements.{filter_map-append}
 use Rattle.std.specs.List.{AllByRecursion as Each}
 use Rattle.list_laws.specs.Lists.{SomeOf, IsPartOf, AreDifferent}
-use Rattle.list_laws.proofs.Places.{get-map, get-map-back, get-front}
-use Rattle.list_laws.proofs.Tests.{equal-self}
-use Rattle.list_laws.proofs.Each.{each-front}
+use Rattle.list_laws.proofs.Places.{get_map, get_map_back, get_front}
+use Rattle.list_laws.proofs.Tests.{equal_self}
+use Rattle.list_laws.proofs.Each.{each_front}
 use Rattle.qrexec_frame.specs.declared.message.Message.{Message}
 use Rattle.qrexec_frame.specs.declared.message.Message.TheVariants as message
 use Rattle.call_broker.specs.declared.event.Event.{Event}
@@ -19,23 +19,23 @@ use Rattle.call_broker.specs.Domains.{Domains}
 use Rattle.call_broker.specs.Pair.{Ordered, has, by_port}
 use Rattle.call_broker.specs.Journal.{port_in, accepted_ports}
 use Rattle.call_broker.specs.Laws.{AcceptsWell}
-use Rattle.call_broker.proofs.Decided.{accepts-well}
-use Rattle.call_broker.proofs.PortLaws.{ports-apart, port-names-pair}
+use Rattle.call_broker.proofs.Decided.{accepts_well}
+use Rattle.call_broker.proofs.PortLaws.{ports_apart_lem, port_names_pair_lem}
 use Rattle.scenario_file.specs.declared.scenario.CallPlan.{CallPlan}
 use Rattle.task_duties.specs.Words.{ident_of}
 use Rattle.task_duties.specs.Agent.Answers.{Asked}
 use Rattle.task_duties.specs.Agent.Saying.{Asking, asking, asking_of}
 use Rattle.task_duties.specs.Broker.Outbox.{outbox}
-use Rattle.task_duties.proofs.Elements.{Has, Comes, each-at, each-of, has-left, has-part, has-filter_map, has-filter_map-back, one-of}
+use Rattle.task_duties.proofs.Elements.{Has, Comes, each_at, each_of, has_left, has_part, has_filter_map, has_filter_map_back, one_of}
 use Rattle.task_duties.proofs.JournalLaw.{asked_event, asked_in}
-use Rattle.task_duties.proofs.OutboxLaw.{IsConnect, put-by-entry, outbox-once, part-once, apart-from}
+use Rattle.task_duties.proofs.OutboxLaw.{IsConnect, put_by_entry, outbox_once, part_once, apart_from}
 use Rattle.call_queue.specs.Queue.{asked_by}
 use Rattle.agent_control.specs.declared.control.AgentControl.{AgentControl}
 use Rattle.agent_task.specs.State.{IsChannelOf, answers_so_far}
 use Rattle.standstill_laws.specs.Asking.{heard_so_far}
 use Rattle.standstill_laws.specs.Order.{IsSentAfter, NoneIsEarly, AgentsHearInOrder}
-use Rattle.standstill_laws.proofs.DoneLaws.{IsPortOfPair, port-of}
-use Rattle.standstill_laws.proofs.OrderLaws.{WasTold, was-told, IsLetThrough, let-through, differ-from, accepted-has, same-ordered}
+use Rattle.standstill_laws.proofs.DoneLaws.{IsPortOfPair, port_of}
+use Rattle.standstill_laws.proofs.OrderLaws.{WasTold, was_told, IsLetThrough, let_through, differ_from, accepted_has, same_ordered}
 
 -- ---- places
 
@@ -45,71 +45,71 @@ record HasBefore (m : Message) (xs : List Message) : Type 0 where
   pub after : List Message
   pub is : xs ≡ before ++ m ∷ after
 
-has-before : (m : Message) (xs : List Message) → SomeOf (λ x. x ≡ m) xs → HasBefore m xs
-has-before m [] some = absurd some
-has-before m (x ∷ xs) (inl here) = record { before = []; after = xs; is = ap (λ (y : Message). y ∷ xs) here }
-has-before m (x ∷ xs) (inr there) = let h = has-before m xs there in record { before = x ∷ h.before; after = h.after; is = ap (λ l. x ∷ l) h.is }
+has_before : (m : Message) (xs : List Message) → SomeOf (λ x. x ≡ m) xs → HasBefore m xs
+has_before m [] some = absurd some
+has_before m (x ∷ xs) (inl here) = record { before = []; after = xs; is = ap (λ (y : Message). y ∷ xs) here }
+has_before m (x ∷ xs) (inr there) = let h = has_before m xs there in record { before = x ∷ h.before; after = h.after; is = ap (λ l. x ∷ l) h.is }
 
 record HasPlace (a : Asking) (xs : List Asking) : Type 0 where
   pub at : ℕ
   pub is : slice_get xs at ≡ Some a
   pub less : at < length xs
 
-has-place : (a : Asking) (xs : List Asking) → Has xs a → HasPlace a xs
-has-place a [] some = absurd some
-has-place a (x ∷ xs) (inl here) = record { at = 0; is = ap (λ (y : Asking). Some y) here; less = omega arith }
-has-place a (x ∷ xs) (inr there) = let h = has-place a xs there in record { at = suc h.at; is = h.is; less = omega (arith, h.less) }
+has_place : (a : Asking) (xs : List Asking) → Has xs a → HasPlace a xs
+has_place a [] some = absurd some
+has_place a (x ∷ xs) (inl here) = record { at = 0; is = ap (λ (y : Asking). Some y) here; less = omega arith }
+has_place a (x ∷ xs) (inr there) = let h = has_place a xs there in record { at = suc h.at; is = h.is; less = omega (arith, h.less) }
 
-get-taken : {A : Type 0} (n : ℕ) (xs : List A) (i : ℕ) (x : A) → slice_get (take n xs) i ≡ Some x → slice_get xs i ≡ Some x
-get-taken zero xs i x there = cc
-get-taken (suc n) [] i x there = cc
-get-taken (suc n) (y ∷ xs) zero x there = there
-get-taken (suc n) (y ∷ xs) (suc i) x there = get-taken n xs i x there
+get_taken : {A : Type 0} (n : ℕ) (xs : List A) (i : ℕ) (x : A) → slice_get (take n xs) i ≡ Some x → slice_get xs i ≡ Some x
+get_taken zero xs i x there = cc
+get_taken (suc n) [] i x there = cc
+get_taken (suc n) (y ∷ xs) zero x there = there
+get_taken (suc n) (y ∷ xs) (suc i) x there = get_taken n xs i x there
 
-has-get : {A : Type 0} (xs : List A) (i : ℕ) (x : A) → slice_get xs i ≡ Some x → Has xs x
-has-get [] i x there = cc
-has-get (y ∷ xs) zero x there = inl (let same : y ≡ x = cc in same)
-has-get (y ∷ xs) (suc i) x there = inr (has-get xs i x there)
+has_get : {A : Type 0} (xs : List A) (i : ℕ) (x : A) → slice_get xs i ≡ Some x → Has xs x
+has_get [] i x there = cc
+has_get (y ∷ xs) zero x there = inl (let same : y ≡ x = cc in same)
+has_get (y ∷ xs) (suc i) x there = inr (has_get xs i x there)
 
-same-place : (xs : List (List ℕ)) (i j : ℕ) (w : List ℕ) → AreDifferent xs → slice_get xs i ≡ Some w → slice_get xs j ≡ Some w → i ≡ j
-same-place [] i j w differ here there = cc
-same-place (x ∷ xs) zero zero w differ here there = refl
-same-place (x ∷ xs) zero (suc j) w differ here there =
+same_place : (xs : List (List ℕ)) (i j : ℕ) (w : List ℕ) → AreDifferent xs → slice_get xs i ≡ Some w → slice_get xs j ≡ Some w → i ≡ j
+same_place [] i j w differ here there = cc
+same_place (x ∷ xs) zero zero w differ here there = refl
+same_place (x ∷ xs) zero (suc j) w differ here there =
     let same : x ≡ w = cc in
-    absurd (each-at (λ (y : List ℕ). x ≢ y) xs w differ.0 (has-get xs j w there) same)
-same-place (x ∷ xs) (suc i) zero w differ here there =
+    absurd (each_at (λ (y : List ℕ). x ≢ y) xs w differ.0 (has_get xs j w there) same)
+same_place (x ∷ xs) (suc i) zero w differ here there =
     let same : x ≡ w = cc in
-    absurd (each-at (λ (y : List ℕ). x ≢ y) xs w differ.0 (has-get xs i w here) same)
-same-place (x ∷ xs) (suc i) (suc j) w differ here there = ap suc (same-place xs i j w differ.1 here there)
+    absurd (each_at (λ (y : List ℕ). x ≢ y) xs w differ.0 (has_get xs i w here) same)
+same_place (x ∷ xs) (suc i) (suc j) w differ here there = ap suc (same_place xs i j w differ.1 here there)
 
 -- ---- entries
 
 -- an entry that gives out this port
-has-accepted : (f t p : ℕ) (journal : List Entry) → has p (accepted_ports journal f t) ≡ true → Comes Entry journal (λ y. port_in f t y.event y.decision ≡ Some p)
-has-accepted f t p journal some = has-filter_map (λ (y : Entry). port_in f t y.event y.decision) journal p (is-in (accepted_ports journal f t) some)
+has_accepted : (f t p : ℕ) (journal : List Entry) → has p (accepted_ports journal f t) ≡ true → Comes Entry journal (λ y. port_in f t y.event y.decision ≡ Some p)
+has_accepted f t p journal some = has_filter_map (λ (y : Entry). port_in f t y.event y.decision) journal p (is_in (accepted_ports journal f t) some)
   where
-    is-in : (xs : List ℕ) → has p xs ≡ true → Has xs p
-    is-in [] some = cc
-    is-in (x ∷ xs) some = by_head (x == p) refl some (is-in xs)
+    is_in : (xs : List ℕ) → has p xs ≡ true → Has xs p
+    is_in [] some = cc
+    is_in (x ∷ xs) some = by_head (x == p) refl some (is_in xs)
       where
         by_head : (b : Bool) → (x == p) ≡ b → (b || has p xs) ≡ true → (has p xs ≡ true → Has xs p) → Has (x ∷ xs) p
         by_head true is h rest = inl (grind (arith, nat_tests, is))
         by_head false is h rest = inr (rest h)
 
 -- no port is one of both directions
-one-way : (hub : Domains) (one two : List Entry) (d t port : ℕ) → Each (λ x. AcceptsWell hub x.event x.decision) one → Each (λ x. AcceptsWell hub x.event x.decision) two → has port (accepted_ports one d t) ≡ true
+one_way : (hub : Domains) (one two : List Entry) (d t port : ℕ) → Each (λ x. AcceptsWell hub x.event x.decision) one → Each (λ x. AcceptsWell hub x.event x.decision) two → has port (accepted_ports one d t) ≡ true
     → has port (accepted_ports two t d) ≡ true → ⊥
-one-way hub one two d t port well well' some some' =
-    let p : IsPortOfPair d t port = port-of hub d t port one well some in
-    let q : IsPortOfPair t d port = port-of hub t d port two well' some' in
-    let first : by_port d t port ≡ Ordered d t = ap (by_port d t) p.port_is ∙ (port-names-pair d t p.call p.apart).0 in
-    let second : by_port d t port ≡ Ordered t d = ap (by_port d t) q.port_is ∙ (port-names-pair t d q.call q.apart).1 in
-    p.apart (same-ordered d t t d (sym first ∙ second)).0
+one_way hub one two d t port well well' some some' =
+    let p : IsPortOfPair d t port = port_of hub d t port one well some in
+    let q : IsPortOfPair t d port = port_of hub t d port two well' some' in
+    let first : by_port d t port ≡ Ordered d t = ap (by_port d t) p.port_is ∙ (port_names_pair_lem d t p.call p.apart).0 in
+    let second : by_port d t port ≡ Ordered t d = ap (by_port d t) q.port_is ∙ (port_names_pair_lem t d q.call q.apart).1 in
+    p.apart (same_ordered d t t d (sym first ∙ second)).0
 
 -- ---- the law
 
-pub none-is-early : NoneIsEarly
-none-is-early hub journal task t c there decided differ put order place to port a at is early = omega (arith, more, few)
+pub none_is_early_lem : NoneIsEarly
+none_is_early_lem hub journal task t c there decided differ put order place to port a at is early = omega (arith, more, few)
   where
     d : ℕ
     d = task.plan.domain
@@ -124,11 +124,11 @@ none-is-early hub journal task t c there decided differ put order place to port 
     w = ident_of a.call.number
 
     well : Each (λ x. AcceptsWell hub x.event x.decision) journal
-    well = accepts-well hub journal [] decided
+    well = accepts_well hub journal [] decided
 
     -- the end, and what was sent before it
     first : HasBefore (message.Terminated to port) early.before
-    first = has-before (message.Terminated to port) early.before early.reported
+    first = has_before (message.Terminated to port) early.before early.reported
 
     whole : said ≡ first.before ++ message.Terminated to port ∷ (first.after ++ early.after)
     whole = early.is ∙ (ap (λ l. l ++ early.after) first.is ∙ append_assoc first.before (message.Terminated to port ∷ first.after) early.after)
@@ -146,27 +146,27 @@ none-is-early hub journal task t c there decided differ put order place to port 
 
     -- the entry of the call
     connect : Has (heard_so_far task) (message.Connect to port w)
-    connect = each-at (WasTold (heard_so_far task)) (answers_so_far task).asked a (was-told task.plan (heard_so_far task)) (has-get (answers_so_far task).asked place a at) to port is
+    connect = each_at (WasTold (heard_so_far task)) (answers_so_far task).asked a (was_told task.plan (heard_so_far task)) (has_get (answers_so_far task).asked place a at) to port is
 
     entry : Comes Entry journal (λ y. IsConnect d to port w y.event y.decision)
-    entry = put-by-entry hub journal d (message.Connect to port w) (each-at (λ m. Has (outbox hub journal d) m) (heard_so_far task) (message.Connect to port w) put connect)
+    entry = put_by_entry hub journal d (message.Connect to port w) (each_at (λ m. Has (outbox hub journal d) m) (heard_so_far task) (message.Connect to port w) put connect)
 
     given : port_in d to entry.one.event entry.one.decision ≡ Some port
     given =
         ap (λ (e : Event). port_in d to e entry.one.decision) entry.is.event
-        ∙ (ap (λ (x : Decision). port_in d to (Trigger d entry.is.target entry.is.service w) x) entry.is.accepted ∙ rw (equal-self d, equal-self to) refl)
+        ∙ (ap (λ (x : Decision). port_in d to (Trigger d entry.is.target entry.is.service w) x) entry.is.accepted ∙ rw (equal_self d, equal_self to) refl)
 
     -- it stood in the journal when the end was sent
     stood : IsLetThrough moment.then d to port → Has moment.then entry.one
     stood (inl own) =
-        let old = has-accepted d to port moment.then own in
+        let old = has_accepted d to port moment.then own in
         let same : old.one ≡ entry.one =
-        one-of (λ (y : Entry). port_in d to y.event y.decision) journal (differ-from (accepted_ports journal d to) (λ i j. (ports-apart hub d to journal decided).1 i j 0)) old.one entry.one port
-        (subst (λ l. Has l old.one) (sym moment.is) (has-left moment.then moment.later old.one old.there)) entry.there old.is given in
+        one_of (λ (y : Entry). port_in d to y.event y.decision) journal (differ_from (accepted_ports journal d to) (λ i j. (ports_apart_lem hub d to journal decided).1 i j 0)) old.one entry.one port
+        (subst (λ l. Has l old.one) (sym moment.is) (has_left moment.then moment.later old.one old.there)) entry.there old.is given in
         subst (λ (y : Entry). Has moment.then y) same old.there
     stood (inr other) =
-        absurd (one-way hub journal moment.then d to port well (each-front (λ x. AcceptsWell hub x.event x.decision) moment.then moment.later (subst (λ l. Each (λ x. AcceptsWell hub x.event x.decision) l) moment.is well))
-        (accepted-has d to port journal entry.one entry.there given) other)
+        absurd (one_way hub journal moment.then d to port well (each_front (λ x. AcceptsWell hub x.event x.decision) moment.then moment.later (subst (λ l. Each (λ x. AcceptsWell hub x.event x.decision) l) moment.is well))
+        (accepted_has d to port journal entry.one entry.there given) other)
 
     asks : Asking
     asks = record { target = entry.is.target; service = entry.is.service; ident = w }
@@ -174,45 +174,45 @@ none-is-early hub journal task t c there decided differ put order place to port 
     -- so its trigger was sent before
     triggered : Has (filter_map asking first.before) asks
     triggered =
-        each-at (λ b. Has (filter_map asking first.before) b) (asked_in moment.then d) asks moment.read
-        (has-filter_map-back (λ (y : Entry). asked_event d y.event) moment.then entry.one asks (stood (let-through hub moment.then d to port moment.report))
-        (ap (asked_event d) entry.is.event ∙ rw (equal-self d) refl))
+        each_at (λ b. Has (filter_map asking first.before) b) (asked_in moment.then d) asks moment.read
+        (has_filter_map_back (λ (y : Entry). asked_event d y.event) moment.then entry.one asks (stood (let_through hub moment.then d to port moment.report))
+        (ap (asked_event d) entry.is.event ∙ rw (equal_self d) refl))
 
     -- as the one of its place
     spot : HasPlace asks (filter_map asking first.before)
-    spot = has-place asks (filter_map asking first.before) triggered
+    spot = has_place asks (filter_map asking first.before) triggered
 
     in_said : slice_get (filter_map asking said) spot.at ≡ Some asks
     in_said =
         ap (λ l. slice_get l spot.at) (ap (filter_map asking) whole ∙ filter_map-append asking first.before (message.Terminated to port ∷ (first.after ++ early.after)))
-        ∙ get-front (filter_map asking first.before) (filter_map asking (message.Terminated to port ∷ (first.after ++ early.after))) spot.at asks spot.is
+        ∙ get_front (filter_map asking first.before) (filter_map asking (message.Terminated to port ∷ (first.after ++ early.after))) spot.at asks spot.is
 
     in_calls : slice_get (map asking_of task.plan.calls) spot.at ≡ Some asks
-    in_calls = get-taken c.queue.next (map asking_of task.plan.calls) spot.at asks (ap (λ l. slice_get l spot.at) (sym channel.asks) ∙ in_said)
+    in_calls = get_taken c.queue.next (map asking_of task.plan.calls) spot.at asks (ap (λ l. slice_get l spot.at) (sym channel.asks) ∙ in_said)
 
     named_there : slice_get (map (λ call. ident_of call.number) task.plan.calls) spot.at ≡ Some w
     named_there =
-        let call = get-map-back asking_of task.plan.calls spot.at asks in_calls in
-        get-map (λ (x : CallPlan). ident_of x.number) task.plan.calls spot.at call.0 call.1 ∙ ap (λ (x : Asking). Some x.ident) call.2
+        let call = get_map_back asking_of task.plan.calls spot.at asks in_calls in
+        get_map (λ (x : CallPlan). ident_of x.number) task.plan.calls spot.at call.0 call.1 ∙ ap (λ (x : Asking). Some x.ident) call.2
 
     call_here : slice_get task.plan.calls place ≡ Some a.call
-    call_here = ap (λ l. slice_get l place) (sym channel.calls) ∙ get-map (λ (x : Asked). x.call) (asked_by c.queue) place a (ap (λ l. slice_get l place) channel.answered ∙ at)
+    call_here = ap (λ l. slice_get l place) (sym channel.calls) ∙ get_map (λ (x : Asked). x.call) (asked_by c.queue) place a (ap (λ l. slice_get l place) channel.answered ∙ at)
 
     named_here : slice_get (map (λ call. ident_of call.number) task.plan.calls) place ≡ Some w
-    named_here = get-map (λ (x : CallPlan). ident_of x.number) task.plan.calls place a.call call_here
+    named_here = get_map (λ (x : CallPlan). ident_of x.number) task.plan.calls place a.call call_here
 
     more : place < length (filter_map asking first.before)
-    more = let same = same-place (map (λ call. ident_of call.number) task.plan.calls) spot.at place w differ named_there named_here in omega (arith, spot.less, same)
+    more = let same = same_place (map (λ call. ident_of call.number) task.plan.calls) spot.at place w differ named_there named_here in omega (arith, spot.less, same)
 
 -- ---- all that an agent hears
 
-pub agents-hear-in-order : AgentsHearInOrder
-agents-hear-in-order hub journal task t c there decided differ heard given counts order = record {
-  apart = apart-from d (heard_so_far task) (part-once d (heard_so_far task) (outbox hub journal d) part
-      (outbox-once hub d journal (accepts-well hub journal [] decided) (λ f u. differ-from (accepted_ports journal f u) (λ i j. (ports-apart hub f u journal decided).1 i j 0))));
+pub agents_hear_in_order_lem : AgentsHearInOrder
+agents_hear_in_order_lem hub journal task t c there decided differ heard given counts order = record {
+  apart = apart_from d (heard_so_far task) (part_once d (heard_so_far task) (outbox hub journal d) part
+      (outbox_once hub d journal (accepts_well hub journal [] decided) (λ f u. differ_from (accepted_ports journal f u) (λ i j. (ports_apart_lem hub f u journal decided).1 i j 0))));
   given = given;
   answered = counts;
-  none_early = none-is-early hub journal task t c there decided differ (each-of (λ m. Has (outbox hub journal d) m) (heard_so_far task) (λ m here. has-part (heard_so_far task) (outbox hub journal d) m part here)) order;
+  none_early = none_is_early_lem hub journal task t c there decided differ (each_of (λ m. Has (outbox hub journal d) m) (heard_so_far task) (λ m here. has_part (heard_so_far task) (outbox hub journal d) m part here)) order;
 }
   where
     d : ℕ

@@ -29,24 +29,24 @@ use Rattle.agent_control.specs.Stopping.{FindsLess, Stops, AtAnEnd, AtTheLimit, 
 use Rattle.standstill_laws.specs.Saying.{Fits, AnswerStill, FailsStill, LessStill, HoldsBackStill, StopsStill, SaysNothingStill}
 use Rattle.standstill_laws.specs.Keeping.{PageRested, FindingsStay}
 
-index-stays : (before now : Core) → PageRested before now → (old later : ℕ) → later ≡ old → index_at before.start old ≡ index_at now.start later
-index-stays before now rested old later same = ap (λ (n : ℕ). index_at n old) (sym rested.start) ∙ ap (index_at now.start) (sym same)
+index_stays : (before now : Core) → PageRested before now → (old later : ℕ) → later ≡ old → index_at before.start old ≡ index_at now.start later
+index_stays before now rested old later same = ap (λ (n : ℕ). index_at n old) (sym rested.start) ∙ ap (index_at now.start) (sym same)
 
-prod-stays : (before now : Core) → Lawful before → Lawful now → PageRested before now → (ring : Ring) → word_at before.orders before.words (prod_word ring) ≡ word_at now.orders now.words (prod_word ring)
-prod-stays before now old new rested Left = old.left.lawful.prod ∙ index-stays before now rested (length before.client.sent) (length now.client.sent) (rested.ends Client).sent ∙ sym new.left.lawful.prod
-prod-stays before now old new rested Right = old.right.lawful.prod ∙ index-stays before now rested (length before.server.sent) (length now.server.sent) (rested.ends Server).sent ∙ sym new.right.lawful.prod
+prod_stays : (before now : Core) → Lawful before → Lawful now → PageRested before now → (ring : Ring) → word_at before.orders before.words (prod_word ring) ≡ word_at now.orders now.words (prod_word ring)
+prod_stays before now old new rested Left = old.left.lawful.prod ∙ index_stays before now rested (length before.client.sent) (length now.client.sent) (rested.ends Client).sent ∙ sym new.left.lawful.prod
+prod_stays before now old new rested Right = old.right.lawful.prod ∙ index_stays before now rested (length before.server.sent) (length now.server.sent) (rested.ends Server).sent ∙ sym new.right.lawful.prod
 
-cons-stays : (before now : Core) → Lawful before → Lawful now → PageRested before now → (ring : Ring) → word_at before.orders before.words (cons_word ring) ≡ word_at now.orders now.words (cons_word ring)
-cons-stays before now old new rested Left = old.left.lawful.cons ∙ index-stays before now rested (length before.server.got) (length now.server.got) (rested.ends Server).got ∙ sym new.left.lawful.cons
-cons-stays before now old new rested Right = old.right.lawful.cons ∙ index-stays before now rested (length before.client.got) (length now.client.got) (rested.ends Client).got ∙ sym new.right.lawful.cons
+cons_stays : (before now : Core) → Lawful before → Lawful now → PageRested before now → (ring : Ring) → word_at before.orders before.words (cons_word ring) ≡ word_at now.orders now.words (cons_word ring)
+cons_stays before now old new rested Left = old.left.lawful.cons ∙ index_stays before now rested (length before.server.got) (length now.server.got) (rested.ends Server).got ∙ sym new.left.lawful.cons
+cons_stays before now old new rested Right = old.right.lawful.cons ∙ index_stays before now rested (length before.client.got) (length now.client.got) (rested.ends Client).got ∙ sym new.right.lawful.cons
 
-live-stays : (before now : Core) → Lawful before → Lawful now → PageRested before now → (who : Role) → word_at before.orders before.words (peer_live who) ≡ word_at now.orders now.words (peer_live who)
-live-stays before now old new rested Server = old.lives.client_words.live ∙ ap live_word (sym (rested.ends Client).state) ∙ sym new.lives.client_words.live
-live-stays before now old new rested Client = old.lives.server_words.live ∙ ap live_word (sym (rested.ends Server).state) ∙ sym new.lives.server_words.live
+live_stays : (before now : Core) → Lawful before → Lawful now → PageRested before now → (who : Role) → word_at before.orders before.words (peer_live who) ≡ word_at now.orders now.words (peer_live who)
+live_stays before now old new rested Server = old.lives.client_words.live ∙ ap live_word (sym (rested.ends Client).state) ∙ sym new.lives.client_words.live
+live_stays before now old new rested Client = old.lives.server_words.live ∙ ap live_word (sym (rested.ends Server).state) ∙ sym new.lives.server_words.live
 
-gone-stays : (before now : Core) → Lawful before → Lawful now → PageRested before now → (who : Role) → word_at before.orders before.words (peer_gone who) ≡ word_at now.orders now.words (peer_gone who)
-gone-stays before now old new rested Server = old.lives.client_words.gone.word ∙ ap (λ (b : Bool). if b then 1 else 0) (sym (rested.ends Client).retired) ∙ sym new.lives.client_words.gone.word
-gone-stays before now old new rested Client = old.lives.server_words.gone.word ∙ ap (λ (b : Bool). if b then 1 else 0) (sym (rested.ends Server).retired) ∙ sym new.lives.server_words.gone.word
+gone_stays : (before now : Core) → Lawful before → Lawful now → PageRested before now → (who : Role) → word_at before.orders before.words (peer_gone who) ≡ word_at now.orders now.words (peer_gone who)
+gone_stays before now old new rested Server = old.lives.client_words.gone.word ∙ ap (λ (b : Bool). if b then 1 else 0) (sym (rested.ends Client).retired) ∙ sym new.lives.client_words.gone.word
+gone_stays before now old new rested Client = old.lives.server_words.gone.word ∙ ap (λ (b : Bool). if b then 1 else 0) (sym (rested.ends Server).retired) ∙ sym new.lives.server_words.gone.word
 
 -- ---- why nothing went
 
@@ -62,20 +62,20 @@ stands before now rested who begun stood = (stood.0, stood.1 ∙ sym rested.orde
 fits : (before now : Core) → PageRested before now → (who : Role) (count : ℕ) → Fits before who count → Fits now who count
 fits before now rested who count = subst (λ (o : Orders). count ≤ size (order_of o (written_ring who))) (sym rested.orders)
 
-answer-still : (before now : Core) → IndicesStay before now → LivesStay before now → (who : Role) (loads : Loads) (a : SendAnswer) → AnswerStill before who loads a → AnswerStill now who loads a
-answer-still before now indices live who loads Sent still = tt
-answer-still before now indices live who loads (NoRoom prod cons) still = indices (written_ring who) prod cons still
-answer-still before now indices live who loads PeerClosed still = live who loads still
+answer_still : (before now : Core) → IndicesStay before now → LivesStay before now → (who : Role) (loads : Loads) (a : SendAnswer) → AnswerStill before who loads a → AnswerStill now who loads a
+answer_still before now indices live who loads Sent still = tt
+answer_still before now indices live who loads (NoRoom prod cons) still = indices (written_ring who) prod cons still
+answer_still before now indices live who loads PeerClosed still = live who loads still
 
-fails-still : (before now : Core) → PageRested before now → IndicesStay before now → LivesStay before now → (who : Role) (bytes : List ℕ) (old new : SeatedEnd) (f : FailsToSend bytes old new) → FailsStill before who bytes old new f → FailsStill now who bytes old new f
-fails-still before now rested indices live who bytes old new f still = record {
+fails_still : (before now : Core) → PageRested before now → IndicesStay before now → LivesStay before now → (who : Role) (bytes : List ℕ) (old new : SeatedEnd) (f : FailsToSend bytes old new) → FailsStill before who bytes old new f → FailsStill now who bytes old new f
+fails_still before now rested indices live who bytes old new f still = record {
   stood = stands before now rested who (standing_of old.side) still.stood;
   fits = fits before now rested who (length bytes) still.fits;
-  found = answer-still before now indices live who (loads_of (standing_of old.side) new.side.trail) f.answer still.found;
+  found = answer_still before now indices live who (loads_of (standing_of old.side) new.side.trail) f.answer still.found;
 }
 
-less-still : (before now : Core) → PageRested before now → IndicesStay before now → (who : Role) (count : ℕ) (old new : SeatedEnd) (f : FindsLess old new count) → LessStill before who count old new f → LessStill now who count old new f
-less-still before now rested indices who count old new f still = record {
+less_still : (before now : Core) → PageRested before now → IndicesStay before now → (who : Role) (count : ℕ) (old new : SeatedEnd) (f : FindsLess old new count) → LessStill before who count old new f → LessStill now who count old new f
+less_still before now rested indices who count old new f still = record {
   stood = stands before now rested who (standing_of old.side) still.stood;
   fits = fits before now rested who count still.fits;
   last = still.last;
@@ -83,27 +83,27 @@ less-still before now rested indices who count old new f still = record {
   found = indices (written_ring who) still.last.prod still.last.cons still.found;
 }
 
-holds-back-still : (before now : Core) → PageRested before now → IndicesStay before now → LivesStay before now → (old new : AgentControl) (h : HoldsBack old new) → HoldsBackStill before old new h → HoldsBackStill now old new h
-holds-back-still before now rested indices live old new (NothingIsDue held) still = tt
-holds-back-still before now rested indices live old new (HasLessRoom w) still = less-still before now rested indices Server (length (written w.trigger)) w.before new.port.end w.finds still
-holds-back-still before now rested indices live old new (DidNotGo w) still = fails-still before now rested indices live Server (written w.trigger) w.before new.port.end w.finds still
+holds_back_still : (before now : Core) → PageRested before now → IndicesStay before now → LivesStay before now → (old new : AgentControl) (h : HoldsBack old new) → HoldsBackStill before old new h → HoldsBackStill now old new h
+holds_back_still before now rested indices live old new (NothingIsDue held) still = tt
+holds_back_still before now rested indices live old new (HasLessRoom w) still = less_still before now rested indices Server (length (written w.trigger)) w.before new.port.end w.finds still
+holds_back_still before now rested indices live old new (DidNotGo w) still = fails_still before now rested indices live Server (written w.trigger) w.before new.port.end w.finds still
 
-stops-still : (before now : Core) → PageRested before now → IndicesStay before now → LivesStay before now → (calls : ℕ) (old new : AgentControl) (s : Stops calls old new) → StopsStill before calls old new s → StopsStill now calls old new s
-stops-still before now rested indices live calls old new (AtAnEnd w) still = fails-still before now rested indices live Server (written (terminated w.end)) w.before new.port.end w.fails still
-stops-still before now rested indices live calls old new (AtTheLimit none next) still = tt
-stops-still before now rested indices live calls old new (AtATrigger none back) still = holds-back-still before now rested indices live old new back still
+stops_still : (before now : Core) → PageRested before now → IndicesStay before now → LivesStay before now → (calls : ℕ) (old new : AgentControl) (s : Stops calls old new) → StopsStill before calls old new s → StopsStill now calls old new s
+stops_still before now rested indices live calls old new (AtAnEnd w) still = fails_still before now rested indices live Server (written (terminated w.end)) w.before new.port.end w.fails still
+stops_still before now rested indices live calls old new (AtTheLimit none next) still = tt
+stops_still before now rested indices live calls old new (AtATrigger none back) still = holds_back_still before now rested indices live old new back still
 
-says-nothing-still : (before now : Core) → PageRested before now → IndicesStay before now → LivesStay before now → (line : BrokerLine) (old new : SeatedEnd) (s : SaysNothing line.version line.greeted line.letters old new) → SaysNothingStill before line old new s → SaysNothingStill now line old new s
-says-nothing-still before now rested indices live line old new (has_not_greeted none same) still = tt
-says-nothing-still before now rested indices live line old new (all_held greets held same) still = tt
-says-nothing-still before now rested indices live line old new (greeting_waits none same fails) still = fails-still before now rested indices live Client (written (Hello broker_version)) old new fails still
-says-nothing-still before now rested indices live line old new (letter_waits at l greets there ready was same fails) still = fails-still before now rested indices live Client (written l.message) old new fails still
+says_nothing_still : (before now : Core) → PageRested before now → IndicesStay before now → LivesStay before now → (line : BrokerLine) (old new : SeatedEnd) (s : SaysNothing line.version line.greeted line.letters old new) → SaysNothingStill before line old new s → SaysNothingStill now line old new s
+says_nothing_still before now rested indices live line old new (has_not_greeted none same) still = tt
+says_nothing_still before now rested indices live line old new (all_held greets held same) still = tt
+says_nothing_still before now rested indices live line old new (greeting_waits none same fails) still = fails_still before now rested indices live Client (written (Hello broker_version)) old new fails still
+says_nothing_still before now rested indices live line old new (letter_waits at l greets there ready was same fails) still = fails_still before now rested indices live Client (written l.message) old new fails still
 
-pub findings-stay : FindingsStay
-findings-stay before now old new rested = record {
+pub findings_stay_lem : FindingsStay
+findings_stay_lem before now old new rested = record {
   indices = indices;
   live = live;
-  gone = λ who loads still. still ∙ ap (λ (n : ℕ). Some n) (gone-stays before now old new rested who);
+  gone = λ who loads still. still ∙ ap (λ (n : ℕ). Some n) (gone_stays before now old new rested who);
   nothing = λ who found. record {
     begun = found.begun;
     stood = stands before now rested who found.begun found.stood;
@@ -124,12 +124,12 @@ findings-stay before now old new rested = record {
     still = indices (written_ring who) found.prod found.cons found.still;
   };
   peer_shut = λ who found. record { loads = found.loads; shut = found.shut; still = live who found.loads found.still };
-  stops = stops-still before now rested indices live;
-  says_nothing = says-nothing-still before now rested indices live;
+  stops = stops_still before now rested indices live;
+  says_nothing = says_nothing_still before now rested indices live;
 }
   where
     indices : (ring : Ring) (prod cons : ℕ) → AreIndices before ring prod cons → AreIndices now ring prod cons
-    indices ring prod cons still = (still.0 ∙ prod-stays before now old new rested ring, still.1 ∙ cons-stays before now old new rested ring)
+    indices ring prod cons still = (still.0 ∙ prod_stays before now old new rested ring, still.1 ∙ cons_stays before now old new rested ring)
 
     live : (who : Role) (loads : Loads) → IsLiveStill before who loads → IsLiveStill now who loads
-    live who loads still = still ∙ ap (λ (n : ℕ). Some (low8 n)) (live-stays before now old new rested who)
+    live who loads still = still ∙ ap (λ (n : ℕ). Some (low8 n)) (live_stays before now old new rested who)

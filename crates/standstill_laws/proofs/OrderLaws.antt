@@ -7,8 +7,8 @@ use Rattle.std.proofs.lemmas.Slice.Eq.{bytes_eq-Decides}
 use Rattle.std.proofs.lemmas.List.Elements.{filter_map-append}
 use Rattle.std.proofs.lemmas.Bool.{and_parts, or_right}
 use Rattle.list_laws.specs.Lists.{AreDifferent}
-use Rattle.list_laws.proofs.Tests.{equal-self}
-use Rattle.list_laws.proofs.Each.{each-front, each-back}
+use Rattle.list_laws.proofs.Tests.{equal_self}
+use Rattle.list_laws.proofs.Each.{each_front, each_back}
 use Rattle.qrexec_frame.specs.declared.message.Message.{Message}
 use Rattle.qrexec_frame.specs.declared.message.Message.TheVariants as message
 use Rattle.call_broker.specs.declared.event.Event.{Event}
@@ -20,10 +20,10 @@ use Rattle.call_broker.specs.Domains.{Domains, is_domain}
 use Rattle.call_broker.specs.Pair.{Ordered, Alone, has, is_pair, by_port, belongs}
 use Rattle.call_broker.specs.Journal.{port_in, accepted_ports}
 use Rattle.call_broker.specs.Laws.{AcceptsWell}
-use Rattle.call_broker.proofs.Decided.{accepts-well}
-use Rattle.call_broker.proofs.DroppedLaws.{any-append}
-use Rattle.call_broker.proofs.PortLaws.{ports-apart, port-names-pair}
-use Rattle.call_broker.proofs.TabledLaws.{own-pair}
+use Rattle.call_broker.proofs.Decided.{accepts_well}
+use Rattle.call_broker.proofs.DroppedLaws.{any_append}
+use Rattle.call_broker.proofs.PortLaws.{ports_apart_lem, port_names_pair_lem}
+use Rattle.call_broker.proofs.TabledLaws.{own_pair}
 use Rattle.task_duties.specs.declared.place.PagePlace.TheVariants.{Payload}
 use Rattle.scenario_file.specs.declared.scenario.CallPlan.{CallPlan}
 use Rattle.task_duties.specs.Places.{has_place, without}
@@ -31,12 +31,12 @@ use Rattle.task_duties.specs.Words.{ident_of, service_of_line}
 use Rattle.task_duties.specs.Agent.Given.{AgentPlan}
 use Rattle.task_duties.specs.Agent.Answers.{Answer, Waits, IsRefused, At, Asked, Answers, waits_as, answered, serves, takes, takes_all, answers, nothing_heard}
 use Rattle.task_duties.specs.Broker.Outbox.{outbox}
-use Rattle.task_duties.proofs.Elements.{Has, each-at, has-append, has-filter_map}
-use Rattle.task_duties.proofs.OutboxLaw.{IsConnect, IsExec, put-by-entry}
+use Rattle.task_duties.proofs.Elements.{Has, each_at, has_append, has_filter_map}
+use Rattle.task_duties.proofs.OutboxLaw.{IsConnect, IsExec, put_by_entry}
 use Rattle.agent_task.specs.Ends.{session_of_answer, session_asked}
 use Rattle.standstill_laws.specs.Settling.{ended_port, EndsInOrder}
 use Rattle.standstill_laws.specs.Order.{IsReportOf, HasGrown, IsEmpty, HasMore, EndsComeInOrder}
-use Rattle.standstill_laws.proofs.DoneLaws.{IsPortOfPair, port-of}
+use Rattle.standstill_laws.proofs.DoneLaws.{IsPortOfPair, port_of}
 
 -- ---- a call that was let through was told so
 
@@ -44,10 +44,10 @@ use Rattle.standstill_laws.proofs.DoneLaws.{IsPortOfPair, port-of}
 abbrev pub WasTold : List Message → Asked → Type 0
 WasTold heard a = (to port : ℕ) → a.answer ≡ At to port → Has heard (message.Connect to port (ident_of a.call.number))
 
-told-answered : (heard : List Message) (ident : List ℕ) (answer : Answer) (asked : List Asked) → ((to port : ℕ) → answer ≡ At to port → Has heard (message.Connect to port ident)) → Each (WasTold heard) asked
+told_answered : (heard : List Message) (ident : List ℕ) (answer : Answer) (asked : List Asked) → ((to port : ℕ) → answer ≡ At to port → Has heard (message.Connect to port ident)) → Each (WasTold heard) asked
     → Each (WasTold heard) (answered ident answer asked)
-told-answered heard ident answer [] told each = tt
-told-answered heard ident answer (a ∷ asked) told each = (by_wait (waits_as ident a) refl, told-answered heard ident answer asked told each.1)
+told_answered heard ident answer [] told each = tt
+told_answered heard ident answer (a ∷ asked) told each = (by_wait (waits_as ident a) refl, told_answered heard ident answer asked told each.1)
   where
     by_wait : (b : Bool) → waits_as ident a ≡ b → WasTold heard (if b then record { call = a.call; answer = answer } else a)
     by_wait true waits =
@@ -55,12 +55,12 @@ told-answered heard ident answer (a ∷ asked) told each = (by_wait (waits_as id
         λ to port is. subst (λ (w : List ℕ). Has heard (message.Connect to port w)) (sym named) (told to port is)
     by_wait false waits = each.0
 
-told-takes : (heard : List Message) (d : ℕ) (a : Answers) (m : Message) → Has heard m → Each (WasTold heard) a.asked → Each (WasTold heard) (takes d a m).asked
-told-takes heard d a (message.Refused ident) there each = told-answered heard ident IsRefused a.asked (λ to port is. absurd (never to port is)) each
+told_takes : (heard : List Message) (d : ℕ) (a : Answers) (m : Message) → Has heard m → Each (WasTold heard) a.asked → Each (WasTold heard) (takes d a m).asked
+told_takes heard d a (message.Refused ident) there each = told_answered heard ident IsRefused a.asked (λ to port is. absurd (never to port is)) each
   where
     never : (to port : ℕ) → IsRefused ≡ At to port → ⊥
     never to port is = cc
-told-takes heard d a (message.Connect to port ident) there each = by_test (list_any (waits_as ident) a.asked && has_place (Payload d to port) a.unused)
+told_takes heard d a (message.Connect to port ident) there each = by_test (list_any (waits_as ident) a.asked && has_place (Payload d to port) a.unused)
   where
     told : (to' port' : ℕ) → At to port ≡ At to' port' → Has heard (message.Connect to' port' ident)
     told to' port' is =
@@ -69,9 +69,9 @@ told-takes heard d a (message.Connect to port ident) there each = by_test (list_
         subst (λ (x : ℕ). Has heard (message.Connect x port' ident)) one (subst (λ (x : ℕ). Has heard (message.Connect to x ident)) two there)
 
     by_test : (b : Bool) → Each (WasTold heard) (if b then record a { asked = answered ident (At to port) a.asked; unused = without (Payload d to port) a.unused } else a).asked
-    by_test true = told-answered heard ident (At to port) a.asked told each
+    by_test true = told_answered heard ident (At to port) a.asked told each
     by_test false = each
-told-takes heard d a (message.Exec from port line) there each = by_service (service_of_line line)
+told_takes heard d a (message.Exec from port line) there each = by_service (service_of_line line)
   where
     by_place : (name : List ℕ) (b : Bool) → Each (WasTold heard)
         (if b then record a { unused = without (Payload from d port) a.unused; served = a.served ++ record { from = from; port = port; service = name } ∷ [] } else a).asked
@@ -81,65 +81,65 @@ told-takes heard d a (message.Exec from port line) there each = by_service (serv
     by_service : (o : Option (List ℕ)) → Each (WasTold heard) (serves d from port o a).asked
     by_service None = each
     by_service (Some name) = by_place name (has_place (Payload from d port) a.unused)
-told-takes heard d a (message.Hello v) there each = each
-told-takes heard d a (message.JustExec x p l) there each = each
-told-takes heard d a (message.Terminated o p) there each = each
-told-takes heard d a (message.Trigger3 t i s) there each = each
-told-takes heard d a (message.Trigger t i s) there each = each
-told-takes heard d a (message.Stdin b) there each = each
-told-takes heard d a (message.Stdout b) there each = each
-told-takes heard d a (message.Stderr b) there each = each
-told-takes heard d a (message.ExitCode c) there each = each
+told_takes heard d a (message.Hello v) there each = each
+told_takes heard d a (message.JustExec x p l) there each = each
+told_takes heard d a (message.Terminated o p) there each = each
+told_takes heard d a (message.Trigger3 t i s) there each = each
+told_takes heard d a (message.Trigger t i s) there each = each
+told_takes heard d a (message.Stdin b) there each = each
+told_takes heard d a (message.Stdout b) there each = each
+told_takes heard d a (message.Stderr b) there each = each
+told_takes heard d a (message.ExitCode c) there each = each
 
-told-all : (heard : List Message) (d : ℕ) (a : Answers) (ms : List Message) → ((m : Message) → Has ms m → Has heard m) → Each (WasTold heard) a.asked → Each (WasTold heard) (takes_all d a ms).asked
-told-all heard d a [] there each = each
-told-all heard d a (m ∷ ms) there each = told-all heard d (takes d a m) ms (λ x h. there x (inr h)) (told-takes heard d a m (there m (inl refl)) each)
+told_all : (heard : List Message) (d : ℕ) (a : Answers) (ms : List Message) → ((m : Message) → Has ms m → Has heard m) → Each (WasTold heard) a.asked → Each (WasTold heard) (takes_all d a ms).asked
+told_all heard d a [] there each = each
+told_all heard d a (m ∷ ms) there each = told_all heard d (takes d a m) ms (λ x h. there x (inr h)) (told_takes heard d a m (there m (inl refl)) each)
 
-none-told : (heard : List Message) (calls : List CallPlan) → Each (WasTold heard) (map (λ call. record { call = call; answer = Waits }) calls)
-none-told heard [] = tt
-none-told heard (c ∷ calls) = (λ to port is. absurd (never to port is), none-told heard calls)
+none_told : (heard : List Message) (calls : List CallPlan) → Each (WasTold heard) (map (λ call. record { call = call; answer = Waits }) calls)
+none_told heard [] = tt
+none_told heard (c ∷ calls) = (λ to port is. absurd (never to port is), none_told heard calls)
   where
     never : (to port : ℕ) → Waits ≡ At to port → ⊥
     never to port is = cc
 
-pub was-told : (plan : AgentPlan) (heard : List Message) → Each (WasTold heard) (answers plan heard).asked
-was-told plan heard = told-all heard plan.domain (nothing_heard plan) heard (λ m h. h) (none-told heard plan.calls)
+pub was_told : (plan : AgentPlan) (heard : List Message) → Each (WasTold heard) (answers plan heard).asked
+was_told plan heard = told_all heard plan.domain (nothing_heard plan) heard (λ m h. h) (none_told heard plan.calls)
 
 -- ---- what is owed was let through
 
 -- some entry of a journal lets a call of the pair through at this port
-pub accepted-has : (f t p : ℕ) (journal : List Entry) (y : Entry) → Has journal y → port_in f t y.event y.decision ≡ Some p → has p (accepted_ports journal f t) ≡ true
-accepted-has f t p [] y there is = absurd there
-accepted-has f t p (x ∷ journal) y (inl here) is =
-    subst (λ (o : Option ℕ). has p (cons_option o (accepted_ports journal f t)) ≡ true) (sym (ap (λ (z : Entry). port_in f t z.event z.decision) here ∙ is)) (ap (λ (b : Bool). b || has p (accepted_ports journal f t)) (equal-self p))
-accepted-has f t p (x ∷ journal) y (inr there) is = skip (port_in f t x.event x.decision) (accepted-has f t p journal y there is)
+pub accepted_has : (f t p : ℕ) (journal : List Entry) (y : Entry) → Has journal y → port_in f t y.event y.decision ≡ Some p → has p (accepted_ports journal f t) ≡ true
+accepted_has f t p [] y there is = absurd there
+accepted_has f t p (x ∷ journal) y (inl here) is =
+    subst (λ (o : Option ℕ). has p (cons_option o (accepted_ports journal f t)) ≡ true) (sym (ap (λ (z : Entry). port_in f t z.event z.decision) here ∙ is)) (ap (λ (b : Bool). b || has p (accepted_ports journal f t)) (equal_self p))
+accepted_has f t p (x ∷ journal) y (inr there) is = skip (port_in f t x.event x.decision) (accepted_has f t p journal y there is)
   where
     skip : (o : Option ℕ) → has p (accepted_ports journal f t) ≡ true → has p (cons_option o (accepted_ports journal f t)) ≡ true
     skip None more = more
     skip (Some q) more = or_right (q == p) (has p (accepted_ports journal f t)) more
 
-own-port-in : (f t p : ℕ) (target service ident : List ℕ) → port_in f t (Trigger f target service ident) (Accepted t p) ≡ Some p
-own-port-in f t p target service ident = rw (equal-self f, equal-self t) refl
+own_port_in : (f t p : ℕ) (target service ident : List ℕ) → port_in f t (Trigger f target service ident) (Accepted t p) ≡ Some p
+own_port_in f t p target service ident = rw (equal_self f, equal_self t) refl
 
-connect-accepted : (hub : Domains) (journal : List Entry) (d other port : ℕ) (ident : List ℕ) → Has (outbox hub journal d) (message.Connect other port ident) → has port (accepted_ports journal d other) ≡ true
-connect-accepted hub journal d other port ident there =
-    let put = put-by-entry hub journal d (message.Connect other port ident) there in
+connect_accepted : (hub : Domains) (journal : List Entry) (d other port : ℕ) (ident : List ℕ) → Has (outbox hub journal d) (message.Connect other port ident) → has port (accepted_ports journal d other) ≡ true
+connect_accepted hub journal d other port ident there =
+    let put = put_by_entry hub journal d (message.Connect other port ident) there in
     let by : IsConnect d other port ident put.one.event put.one.decision = put.is in
-    accepted-has d other port journal put.one put.there
-    (ap (λ (e : Event). port_in d other e put.one.decision) by.event ∙ (ap (λ (x : Decision). port_in d other (Trigger d by.target by.service ident) x) by.accepted ∙ own-port-in d other port by.target by.service ident))
+    accepted_has d other port journal put.one put.there
+    (ap (λ (e : Event). port_in d other e put.one.decision) by.event ∙ (ap (λ (x : Decision). port_in d other (Trigger d by.target by.service ident) x) by.accepted ∙ own_port_in d other port by.target by.service ident))
 
-exec-accepted : (hub : Domains) (journal : List Entry) (d other port : ℕ) (line : List ℕ) → Has (outbox hub journal d) (message.Exec other port line) → has port (accepted_ports journal other d) ≡ true
-exec-accepted hub journal d other port line there =
-    let put = put-by-entry hub journal d (message.Exec other port line) there in
+exec_accepted : (hub : Domains) (journal : List Entry) (d other port : ℕ) (line : List ℕ) → Has (outbox hub journal d) (message.Exec other port line) → has port (accepted_ports journal other d) ≡ true
+exec_accepted hub journal d other port line there =
+    let put = put_by_entry hub journal d (message.Exec other port line) there in
     let by : IsExec hub d other port line put.one.event put.one.decision = put.is in
-    accepted-has other d port journal put.one put.there
-    (ap (λ (e : Event). port_in other d e put.one.decision) by.event ∙ (ap (λ (x : Decision). port_in other d (Trigger other by.target by.service by.ident) x) by.accepted ∙ own-port-in other d port by.target by.service by.ident))
+    accepted_has other d port journal put.one put.there
+    (ap (λ (e : Event). port_in other d e put.one.decision) by.event ∙ (ap (λ (x : Decision). port_in other d (Trigger other by.target by.service by.ident) x) by.accepted ∙ own_port_in other d port by.target by.service by.ident))
 
 abbrev pub IsLetThrough : List Entry → ℕ → ℕ → ℕ → Type 0
 IsLetThrough journal d other port = (has port (accepted_ports journal d other) ≡ true) ⊎ (has port (accepted_ports journal other d) ≡ true)
 
-by-answer-at : (a : Asked) (other port : ℕ) → session_of_answer a.answer ≡ Some (other, port) → a.answer ≡ At other port
-by-answer-at a other port is = by_answer a.answer refl is
+by_answer_at : (a : Asked) (other port : ℕ) → session_of_answer a.answer ≡ Some (other, port) → a.answer ≡ At other port
+by_answer_at a other port is = by_answer a.answer refl is
   where
     by_answer : (x : Answer) → a.answer ≡ x → session_of_answer x ≡ Some (other, port) → x ≡ At other port
     by_answer Waits same is = cc
@@ -148,87 +148,87 @@ by-answer-at a other port is = by_answer a.answer refl is
         let pair : (to, p) ≡ (other, port) = cc in
         ap (λ (x : ℕ × ℕ). At x.0 x.1) pair
 
-asked-accepted : (hub : Domains) (journal : List Entry) (d other port : ℕ) (m : Message) → Has (outbox hub journal d) m → session_asked m ≡ Some (other, port) → has port (accepted_ports journal other d) ≡ true
-asked-accepted hub journal d other port (message.Exec from p line) there is =
+asked_accepted : (hub : Domains) (journal : List Entry) (d other port : ℕ) (m : Message) → Has (outbox hub journal d) m → session_asked m ≡ Some (other, port) → has port (accepted_ports journal other d) ≡ true
+asked_accepted hub journal d other port (message.Exec from p line) there is =
     let pair : (from, p) ≡ (other, port) = cc in
-    exec-accepted hub journal d other port line (subst (λ (x : ℕ × ℕ). Has (outbox hub journal d) (message.Exec x.0 x.1 line)) pair there)
-asked-accepted hub journal d other port (message.JustExec from p line) there is = absurd (put-by-entry hub journal d (message.JustExec from p line) there).is
-asked-accepted hub journal d other port (message.Hello v) there is = cc
-asked-accepted hub journal d other port (message.Connect x p i) there is = cc
-asked-accepted hub journal d other port (message.Refused i) there is = cc
-asked-accepted hub journal d other port (message.Terminated o p) there is = cc
-asked-accepted hub journal d other port (message.Trigger3 t i s) there is = cc
-asked-accepted hub journal d other port (message.Trigger t i s) there is = cc
-asked-accepted hub journal d other port (message.Stdin b) there is = cc
-asked-accepted hub journal d other port (message.Stdout b) there is = cc
-asked-accepted hub journal d other port (message.Stderr b) there is = cc
-asked-accepted hub journal d other port (message.ExitCode c) there is = cc
+    exec_accepted hub journal d other port line (subst (λ (x : ℕ × ℕ). Has (outbox hub journal d) (message.Exec x.0 x.1 line)) pair there)
+asked_accepted hub journal d other port (message.JustExec from p line) there is = absurd (put_by_entry hub journal d (message.JustExec from p line) there).is
+asked_accepted hub journal d other port (message.Hello v) there is = cc
+asked_accepted hub journal d other port (message.Connect x p i) there is = cc
+asked_accepted hub journal d other port (message.Refused i) there is = cc
+asked_accepted hub journal d other port (message.Terminated o p) there is = cc
+asked_accepted hub journal d other port (message.Trigger3 t i s) there is = cc
+asked_accepted hub journal d other port (message.Trigger t i s) there is = cc
+asked_accepted hub journal d other port (message.Stdin b) there is = cc
+asked_accepted hub journal d other port (message.Stdout b) there is = cc
+asked_accepted hub journal d other port (message.Stderr b) there is = cc
+asked_accepted hub journal d other port (message.ExitCode c) there is = cc
 
-pub let-through : (hub : Domains) (journal : List Entry) (d other port : ℕ) → IsReportOf hub journal d other port → IsLetThrough journal d other port
-let-through hub journal d other port r = by_part (has-append (filter_map (λ a. session_of_answer a.answer) asked) (filter_map session_asked r.heard) (other, port) r.owed)
+pub let_through : (hub : Domains) (journal : List Entry) (d other port : ℕ) → IsReportOf hub journal d other port → IsLetThrough journal d other port
+let_through hub journal d other port r = by_part (has_append (filter_map (λ a. session_of_answer a.answer) asked) (filter_map session_asked r.heard) (other, port) r.owed)
   where
     asked : List Asked
     asked = (answers r.plan r.heard).asked
 
     told : Each (WasTold r.heard) asked
-    told = was-told r.plan r.heard
+    told = was_told r.plan r.heard
 
     by_part : Has (filter_map (λ a. session_of_answer a.answer) asked) (other, port) ⊎ Has (filter_map session_asked r.heard) (other, port) → IsLetThrough journal d other port
     by_part (inl own) =
-        let one = has-filter_map (λ (a : Asked). session_of_answer a.answer) asked (other, port) own in
-        let connect = each-at (WasTold r.heard) asked one.one told one.there other port (by-answer-at one.one other port one.is) in
-        inl (connect-accepted hub journal d other port (ident_of one.one.call.number) (each-at (λ m. Has (outbox hub journal d) m) r.heard (message.Connect other port (ident_of one.one.call.number)) r.put connect))
+        let one = has_filter_map (λ (a : Asked). session_of_answer a.answer) asked (other, port) own in
+        let connect = each_at (WasTold r.heard) asked one.one told one.there other port (by_answer_at one.one other port one.is) in
+        inl (connect_accepted hub journal d other port (ident_of one.one.call.number) (each_at (λ m. Has (outbox hub journal d) m) r.heard (message.Connect other port (ident_of one.one.call.number)) r.put connect))
     by_part (inr served) =
-        let one = has-filter_map session_asked r.heard (other, port) served in
-        inr (asked-accepted hub journal d other port one.one (each-at (λ m. Has (outbox hub journal d) m) r.heard one.one r.put one.there) one.is)
+        let one = has_filter_map session_asked r.heard (other, port) served in
+        inr (asked_accepted hub journal d other port one.one (each_at (λ m. Has (outbox hub journal d) m) r.heard one.one r.put one.there) one.is)
 
 -- ---- its pair is the one that its end names
 
-pub same-ordered : (a b f t : ℕ) → Ordered a b ≡ Ordered f t → (a ≡ f) × (b ≡ t)
-same-ordered a b f t is = (cc, cc)
+pub same_ordered : (a b f t : ℕ) → Ordered a b ≡ Ordered f t → (a ≡ f) × (b ≡ t)
+same_ordered a b f t is = (cc, cc)
 
-named-pair : (hub : Domains) (f t d other port : ℕ) → belongs hub (Ordered f t) (Terminated d other port) ≡ true → by_port d other port ≡ Ordered f t
-named-pair hub f t d other port own = by_domain (is_domain hub other && not (other == d)) own
+named_pair : (hub : Domains) (f t d other port : ℕ) → belongs hub (Ordered f t) (Terminated d other port) ≡ true → by_port d other port ≡ Ordered f t
+named_pair hub f t d other port own = by_domain (is_domain hub other && not (other == d)) own
   where
     by_domain : (b : Bool) → is_pair (if b then by_port d other port else Alone d) (Ordered f t) ≡ true → by_port d other port ≡ Ordered f t
-    by_domain true is = own-pair (by_port d other port) f t is
+    by_domain true is = own_pair (by_port d other port) f t is
     by_domain false is = cc
 
-of-pair : (hub : Domains) (journal : List Entry) (f t d other port : ℕ) → Each (λ x. AcceptsWell hub x.event x.decision) journal → belongs hub (Ordered f t) (Terminated d other port) ≡ true → IsLetThrough journal d other port
+of_pair : (hub : Domains) (journal : List Entry) (f t d other port : ℕ) → Each (λ x. AcceptsWell hub x.event x.decision) journal → belongs hub (Ordered f t) (Terminated d other port) ≡ true → IsLetThrough journal d other port
     → has port (accepted_ports journal f t) ≡ true
-of-pair hub journal f t d other port well own (inl some) =
-    let p : IsPortOfPair d other port = port-of hub d other port journal well some in
-    let pair : Ordered d other ≡ Ordered f t = sym (ap (by_port d other) p.port_is ∙ (port-names-pair d other p.call p.apart).0) ∙ named-pair hub f t d other port own in
-    let same = same-ordered d other f t pair in
+of_pair hub journal f t d other port well own (inl some) =
+    let p : IsPortOfPair d other port = port_of hub d other port journal well some in
+    let pair : Ordered d other ≡ Ordered f t = sym (ap (by_port d other) p.port_is ∙ (port_names_pair_lem d other p.call p.apart).0) ∙ named_pair hub f t d other port own in
+    let same = same_ordered d other f t pair in
     subst (λ (x : ℕ). has port (accepted_ports journal x t) ≡ true) same.0 (subst (λ (x : ℕ). has port (accepted_ports journal d x) ≡ true) same.1 some)
-of-pair hub journal f t d other port well own (inr some) =
-    let p : IsPortOfPair other d port = port-of hub other d port journal well some in
-    let pair : Ordered other d ≡ Ordered f t = sym (ap (by_port d other) p.port_is ∙ (port-names-pair other d p.call p.apart).1) ∙ named-pair hub f t d other port own in
-    let same = same-ordered other d f t pair in
+of_pair hub journal f t d other port well own (inr some) =
+    let p : IsPortOfPair other d port = port_of hub other d port journal well some in
+    let pair : Ordered other d ≡ Ordered f t = sym (ap (by_port d other) p.port_is ∙ (port_names_pair_lem other d p.call p.apart).1) ∙ named_pair hub f t d other port own in
+    let same = same_ordered other d f t pair in
     subst (λ (x : ℕ). has port (accepted_ports journal x t) ≡ true) same.0 (subst (λ (x : ℕ). has port (accepted_ports journal other x) ≡ true) same.1 some)
 
 -- ---- no port twice
 
-each-index : (P : ℕ → Type 0) (xs : List ℕ) → ((k : ℕ) → k < length xs → P (slice_index_or xs k 0)) → Each P xs
-each-index P [] go = tt
-each-index P (x ∷ xs) go = (go 0 (omega arith), each-index P xs (λ k less. go (suc k) (omega (arith, less))))
+each_index : (P : ℕ → Type 0) (xs : List ℕ) → ((k : ℕ) → k < length xs → P (slice_index_or xs k 0)) → Each P xs
+each_index P [] go = tt
+each_index P (x ∷ xs) go = (go 0 (omega arith), each_index P xs (λ k less. go (suc k) (omega (arith, less))))
 
-pub differ-from : (xs : List ℕ) → ((i j : ℕ) → i < j → j < length xs → slice_index_or xs i 0 ≢ slice_index_or xs j 0) → AreDifferent xs
-differ-from [] apart = tt
-differ-from (x ∷ xs) apart = (each-index (λ y. x ≢ y) xs (λ k less. apart 0 (suc k) (omega arith) (omega (arith, less))), differ-from xs (λ i j before less. apart (suc i) (suc j) (omega (arith, before)) (omega (arith, less))))
+pub differ_from : (xs : List ℕ) → ((i j : ℕ) → i < j → j < length xs → slice_index_or xs i 0 ≢ slice_index_or xs j 0) → AreDifferent xs
+differ_from [] apart = tt
+differ_from (x ∷ xs) apart = (each_index (λ y. x ≢ y) xs (λ k less. apart 0 (suc k) (omega arith) (omega (arith, less))), differ_from xs (λ i j before less. apart (suc i) (suc j) (omega (arith, before)) (omega (arith, less))))
 
-none-again : (p x : ℕ) (ys : List ℕ) → x ≡ p → Each (λ y. x ≢ y) ys → has p ys ≡ false
-none-again p x [] same each = refl
-none-again p x (y ∷ ys) same each =
+none_again : (p x : ℕ) (ys : List ℕ) → x ≡ p → Each (λ y. x ≢ y) ys → has p ys ≡ false
+none_again p x [] same each = refl
+none_again p x (y ∷ ys) same each =
     let other : (y == p) ≡ false = let apart = each.0 in grind (arith, nat_tests, same) in
-    rw other (none-again p x ys same each.1)
+    rw other (none_again p x ys same each.1)
 
-only-first : (p : ℕ) (xs ys : List ℕ) → AreDifferent (xs ++ ys) → has p xs ≡ true → has p ys ≡ false
-only-first p [] ys differ some = cc
-only-first p (x ∷ xs) ys differ some = by_head (x == p) refl some (only-first p xs ys differ.1)
+only_first : (p : ℕ) (xs ys : List ℕ) → AreDifferent (xs ++ ys) → has p xs ≡ true → has p ys ≡ false
+only_first p [] ys differ some = cc
+only_first p (x ∷ xs) ys differ some = by_head (x == p) refl some (only_first p xs ys differ.1)
   where
     by_head : (b : Bool) → (x == p) ≡ b → (b || has p xs) ≡ true → (has p xs ≡ true → has p ys ≡ false) → has p ys ≡ false
-    by_head true is h rest = none-again p x ys (grind (arith, nat_tests, is)) (each-back (λ y. x ≢ y) xs ys differ.0)
+    by_head true is h rest = none_again p x ys (grind (arith, nat_tests, is)) (each_back (λ y. x ≢ y) xs ys differ.0)
     by_head false is h rest = rest h
 
 -- ---- the law
@@ -243,19 +243,19 @@ record IsBefore (before a : List Entry) (x : Entry) : Type 0 where
   pub rest : List Entry
   pub is : before ≡ a ++ x ∷ rest
 
-has-after : (a : List Entry) (x : Entry) (b : List Entry) → Has (a ++ x ∷ b) x
-has-after [] x b = inl refl
-has-after (y ∷ a) x b = inr (has-after a x b)
+has_after : (a : List Entry) (x : Entry) (b : List Entry) → Has (a ++ x ∷ b) x
+has_after [] x b = inl refl
+has_after (y ∷ a) x b = inr (has_after a x b)
 
-where-in : (before new a : List Entry) (x : Entry) (b : List Entry) → before ++ new ≡ a ++ x ∷ b → IsBefore before a x ⊎ IsLater before a x new
-where-in [] new a x b is = inr (record { between = a; is = refl; there = subst (λ (l : List Entry). Has l x) (sym is) (has-after a x b) })
-where-in (y ∷ before) new [] x b is =
+where_in : (before new a : List Entry) (x : Entry) (b : List Entry) → before ++ new ≡ a ++ x ∷ b → IsBefore before a x ⊎ IsLater before a x new
+where_in [] new a x b is = inr (record { between = a; is = refl; there = subst (λ (l : List Entry). Has l x) (sym is) (has_after a x b) })
+where_in (y ∷ before) new [] x b is =
     let same : y ≡ x = cc in
     inl (record { rest = before; is = ap (λ (z : Entry). z ∷ before) same })
-where-in (y ∷ before) new (z ∷ a) x b is =
+where_in (y ∷ before) new (z ∷ a) x b is =
     let same : y ≡ z = cc in
     let rest : before ++ new ≡ a ++ x ∷ b = cc in
-    further same (where-in before new a x b rest)
+    further same (where_in before new a x b rest)
   where
     further : y ≡ z → IsBefore before a x ⊎ IsLater before a x new → IsBefore (y ∷ before) (z ∷ a) x ⊎ IsLater (y ∷ before) (z ∷ a) x new
     further same (inl h) = inl (record { rest = h.rest; is = ap (λ (w : Entry). w ∷ before) same ∙ ap (λ l. z ∷ l) h.is })
@@ -268,42 +268,42 @@ record WasReported (hub : Domains) (a : List Entry) (d other port : ℕ) : Type 
   pub is : a ≡ before ++ between
   pub report : IsReportOf hub before d other port
 
-none-there : (a : List Entry) (x : Entry) (b : List Entry) → [] ≡ a ++ x ∷ b → ⊥
-none-there [] x b is = cc
-none-there (y ∷ a) x b is = cc
+none_there : (a : List Entry) (x : Entry) (b : List Entry) → [] ≡ a ++ x ∷ b → ⊥
+none_there [] x b is = cc
+none_there (y ∷ a) x b is = cc
 
-was-reported : (hub : Domains) (journal a : List Entry) (x : Entry) (b : List Entry) (d other port : ℕ) → HasGrown hub journal → journal ≡ a ++ x ∷ b → x.event ≡ Terminated d other port → WasReported hub a d other port
-was-reported hub journal a x b d other port IsEmpty is event = absurd (none-there a x b is)
-was-reported hub journal a x b d other port (HasMore before new grown read) is event = by_part (where-in before new a x b is) (λ rest same. was-reported hub before a x rest d other port grown same event)
+was_reported : (hub : Domains) (journal a : List Entry) (x : Entry) (b : List Entry) (d other port : ℕ) → HasGrown hub journal → journal ≡ a ++ x ∷ b → x.event ≡ Terminated d other port → WasReported hub a d other port
+was_reported hub journal a x b d other port IsEmpty is event = absurd (none_there a x b is)
+was_reported hub journal a x b d other port (HasMore before new grown read) is event = by_part (where_in before new a x b is) (λ rest same. was_reported hub before a x rest d other port grown same event)
   where
     by_part : IsBefore before a x ⊎ IsLater before a x new → ((rest : List Entry) → before ≡ a ++ x ∷ rest → WasReported hub a d other port) → WasReported hub a d other port
     by_part (inl h) earlier = earlier h.rest h.is
     by_part (inr h) earlier = record { before = before; between = h.between; is = h.is; report = read x d other port h.there event }
 
-in-order : (hub : Domains) (journal : List Entry) (f t : ℕ) → Each (λ x. AcceptsWell hub x.event x.decision) journal → AreDifferent (accepted_ports journal f t) → HasGrown hub journal → (done rest : List Entry) → journal ≡ done ++ rest
+in_order : (hub : Domains) (journal : List Entry) (f t : ℕ) → Each (λ x. AcceptsWell hub x.event x.decision) journal → AreDifferent (accepted_ports journal f t) → HasGrown hub journal → (done rest : List Entry) → journal ≡ done ++ rest
     → EndsInOrder hub f t rest
-in-order hub journal f t well differ grown done [] is = tt
-in-order hub journal f t well differ grown done (x ∷ rest) is = (
+in_order hub journal f t well differ grown done [] is = tt
+in_order hub journal f t well differ grown done (x ∷ rest) is = (
   λ port ended. by_event x.event refl port ended,
-  in-order hub journal f t well differ grown (done ++ x ∷ []) rest (is ∙ sym (append_assoc done (x ∷ []) rest)),
+  in_order hub journal f t well differ grown (done ++ x ∷ []) rest (is ∙ sym (append_assoc done (x ∷ []) rest)),
 )
   where
     here : (d other port : ℕ) → x.event ≡ Terminated d other port → belongs hub (Ordered f t) (Terminated d other port) ≡ true → has port (accepted_ports rest f t) ≡ false
     here d other port event own =
-        let was = was-reported hub journal done x rest d other port grown is event in
+        let was = was_reported hub journal done x rest d other port grown is event in
         let whole : journal ≡ was.before ++ ((was.between ++ x ∷ []) ++ rest) =
         is ∙ (ap (λ l. l ++ x ∷ rest) was.is ∙ (append_assoc was.before was.between (x ∷ rest) ∙ ap (λ l. was.before ++ l) (sym (append_assoc was.between (x ∷ []) rest)))) in
-        let before_well = each-front (λ y. AcceptsWell hub y.event y.decision) was.before ((was.between ++ x ∷ []) ++ rest) (subst (λ l. Each (λ y. AcceptsWell hub y.event y.decision) l) whole well) in
-        let some = of-pair hub was.before f t d other port before_well own (let-through hub was.before d other port was.report) in
+        let before_well = each_front (λ y. AcceptsWell hub y.event y.decision) was.before ((was.between ++ x ∷ []) ++ rest) (subst (λ l. Each (λ y. AcceptsWell hub y.event y.decision) l) whole well) in
+        let some = of_pair hub was.before f t d other port before_well own (let_through hub was.before d other port was.report) in
         let split : accepted_ports journal f t ≡ (accepted_ports was.before f t ++ accepted_ports (was.between ++ x ∷ []) f t) ++ accepted_ports rest f t =
         ap (λ l. accepted_ports l f t) whole
         ∙ (filter_map-append (λ (y : Entry). port_in f t y.event y.decision) was.before ((was.between ++ x ∷ []) ++ rest)
         ∙ (ap (λ l. accepted_ports was.before f t ++ l) (filter_map-append (λ (y : Entry). port_in f t y.event y.decision) (was.between ++ x ∷ []) rest)
         ∙ sym (append_assoc (accepted_ports was.before f t) (accepted_ports (was.between ++ x ∷ []) f t) (accepted_ports rest f t)))) in
         let first : has port (accepted_ports was.before f t ++ accepted_ports (was.between ++ x ∷ []) f t) ≡ true =
-        any-append (λ m. m == port) (accepted_ports was.before f t) (accepted_ports (was.between ++ x ∷ []) f t)
+        any_append (λ m. m == port) (accepted_ports was.before f t) (accepted_ports (was.between ++ x ∷ []) f t)
         ∙ ap (λ (b : Bool). b || has port (accepted_ports (was.between ++ x ∷ []) f t)) some in
-        only-first port (accepted_ports was.before f t ++ accepted_ports (was.between ++ x ∷ []) f t) (accepted_ports rest f t) (subst (λ l. AreDifferent l) split differ) first
+        only_first port (accepted_ports was.before f t ++ accepted_ports (was.between ++ x ∷ []) f t) (accepted_ports rest f t) (subst (λ l. AreDifferent l) split differ) first
 
     by_own : (d other port : ℕ) → x.event ≡ Terminated d other port → (b : Bool) → belongs hub (Ordered f t) (Terminated d other port) ≡ b → (p : ℕ) → (if b then Some port else None) ≡ Some p → has p (accepted_ports rest f t) ≡ false
     by_own d other port event true own p ended =
@@ -316,6 +316,6 @@ in-order hub journal f t well differ grown done (x ∷ rest) is = (
     by_event (Trigger from target service ident) event p ended = cc
     by_event (Dropped domain) event p ended = cc
 
-pub ends-come-in-order : EndsComeInOrder
-ends-come-in-order hub journal f t decided grown =
-    in-order hub journal f t (accepts-well hub journal [] decided) (differ-from (accepted_ports journal f t) (λ i j. (ports-apart hub f t journal decided).1 i j 0)) grown [] journal refl
+pub ends_come_in_order_lem : EndsComeInOrder
+ends_come_in_order_lem hub journal f t decided grown =
+    in_order hub journal f t (accepts_well hub journal [] decided) (differ_from (accepted_ports journal f t) (λ i j. (ports_apart_lem hub f t journal decided).1 i j 0)) grown [] journal refl

@@ -15,37 +15,37 @@ use Rattle.vchan_protocol.specs.History.Peer.{peer}
 use Rattle.vchan_rule.specs.Seated.{SeatedEnd}
 use Rattle.vchan_lifecycle.specs.Lifecycle.{FindsNotYet}
 use Rattle.standstill_laws.specs.Sessions.{IsGoneStill, CallIsQuiet, CallIsOver, ServingIsQuiet, ServingIsOver, NoSessionIsOpen, PeerIsThere}
-use Rattle.standstill_laws.proofs.TurnLaws.{no-session-stands-still}
+use Rattle.standstill_laws.proofs.TurnLaws.{no_session_stands_still_lem}
 use Rattle.qrexec_data.specs.Laws.{IsVersion}
 
 -- a drain that finds nothing yet has found the peer here
-here-by : (e : Standing) (n : ℕ) (loads : Loads) (prod cons : ℕ) → DrainCause e n loads (NotYet prod cons) → FoundHere loads
-here-by e n loads prod cons (drain_got last older pairs none unread some is) = cc
-here-by e n loads prod cons (drain_all_read all is) = cc
-here-by e n loads prod cons (drain_not_yet last last_is none unread here is) = here
-here-by e n loads prod cons (drain_peer_gone last last_is none unread gone is) = cc
+here_by : (e : Standing) (n : ℕ) (loads : Loads) (prod cons : ℕ) → DrainCause e n loads (NotYet prod cons) → FoundHere loads
+here_by e n loads prod cons (drain_got last older pairs none unread some is) = cc
+here_by e n loads prod cons (drain_all_read all is) = cc
+here_by e n loads prod cons (drain_not_yet last last_is none unread here is) = here
+here_by e n loads prod cons (drain_peer_gone last last_is none unread gone is) = cc
 
-gone-told : (core : Core) → Lawful core → (who : Role) → word_at core.orders core.words (peer_gone who) ≡ (if (side_of core (peer who)).retired then 1 else 0)
-gone-told core l Server = l.lives.client_words.gone.word
-gone-told core l Client = l.lives.server_words.gone.word
+gone_told : (core : Core) → Lawful core → (who : Role) → word_at core.orders core.words (peer_gone who) ≡ (if (side_of core (peer who)).retired then 1 else 0)
+gone_told core l Server = l.lives.client_words.gone.word
+gone_told core l Client = l.lives.server_words.gone.word
 
 -- so if what it found is still so, its peer isn't retired
-not-retired : (core : Core) (who : Role) (before now : SeatedEnd) → Lawful core → (f : FindsNotYet before now) → IsGoneStill core who (loads_of (standing_of before.side) now.side.trail) → (side_of core (peer who)).retired ≡ true → ⊥
-not-retired core who before now lawful f still retired =
-    let here : FoundHere (loads_of (standing_of before.side) now.side.trail) = here-by (standing_of before.side) f.most (loads_of (standing_of before.side) now.side.trail) f.prod f.cons f.cause in
+not_retired : (core : Core) (who : Role) (before now : SeatedEnd) → Lawful core → (f : FindsNotYet before now) → IsGoneStill core who (loads_of (standing_of before.side) now.side.trail) → (side_of core (peer who)).retired ≡ true → ⊥
+not_retired core who before now lawful f still retired =
+    let here : FoundHere (loads_of (standing_of before.side) now.side.trail) = here_by (standing_of before.side) f.most (loads_of (standing_of before.side) now.side.trail) f.prod f.cons f.cause in
     let same : Some 0 ≡ Some (word_at core.orders core.words (peer_gone who)) = sym here ∙ still in
     let word : 0 ≡ word_at core.orders core.words (peer_gone who) = cc in
-    let one : ◌≡◌ {A = ℕ} 0 1 = word ∙ (gone-told core lawful who ∙ ap (λ (b : Bool). if b then 1 else 0) retired) in
+    let one : ◌≡◌ {A = ℕ} 0 1 = word ∙ (gone_told core lawful who ∙ ap (λ (b : Bool). if b then 1 else 0) retired) in
     cc
 
-pub no-session-is-open : NoSessionIsOpen
-no-session-is-open core calling serving c s lawful calling_is serving_is (CallIsOver end retired) (ServingIsOver end' retired') = (refl, refl)
-no-session-is-open core calling serving c s lawful calling_is serving_is (CallIsQuiet before now stands undecided upright turn still gone) (ServingIsOver end retired) =
-    absurd (not-retired core Server turn.2.found turn.2.left lawful turn.2.not_yet gone retired)
-no-session-is-open core calling serving c s lawful calling_is serving_is (CallIsOver end retired) (ServingIsQuiet before now stands undecided upright turn still gone) =
-    absurd (not-retired core Client turn.2.found turn.2.left lawful turn.2.not_yet gone retired)
-no-session-is-open core calling serving c s lawful calling_is serving_is (CallIsQuiet before now stands undecided upright turn still gone) (ServingIsQuiet before' now' stands' undecided' upright' turn' still' gone') =
-    absurd (no-session-stands-still core (builtin_owes stands'.2.0) before now before' now' (record {
+pub no_session_is_open_lem : NoSessionIsOpen
+no_session_is_open_lem core calling serving c s lawful calling_is serving_is (CallIsOver end retired) (ServingIsOver end' retired') = (refl, refl)
+no_session_is_open_lem core calling serving c s lawful calling_is serving_is (CallIsQuiet before now stands undecided upright turn still gone) (ServingIsOver end retired) =
+    absurd (not_retired core Server turn.2.found turn.2.left lawful turn.2.not_yet gone retired)
+no_session_is_open_lem core calling serving c s lawful calling_is serving_is (CallIsOver end retired) (ServingIsQuiet before now stands undecided upright turn still gone) =
+    absurd (not_retired core Client turn.2.found turn.2.left lawful turn.2.not_yet gone retired)
+no_session_is_open_lem core calling serving c s lawful calling_is serving_is (CallIsQuiet before now stands undecided upright turn still gone) (ServingIsQuiet before' now' stands' undecided' upright' turn' still' gone') =
+    absurd (no_session_stands_still_lem core (builtin_owes stands'.2.0) before now before' now' (record {
       lawful = lawful;
       server_opened = upright;
       client_opened = upright';
@@ -61,9 +61,9 @@ no-session-is-open core calling serving c s lawful calling_is serving_is (CallIs
       serving_still = still';
     }))
 
-pub peer-is-there : PeerIsThere
-peer-is-there core who before now lawful f still = by_flag (side_of core (peer who)).retired refl
+pub peer_is_there_lem : PeerIsThere
+peer_is_there_lem core who before now lawful f still = by_flag (side_of core (peer who)).retired refl
   where
     by_flag : (b : Bool) → (side_of core (peer who)).retired ≡ b → b ≡ false
-    by_flag true is = absurd (not-retired core who before now lawful f still is)
+    by_flag true is = absurd (not_retired core who before now lawful f still is)
     by_flag false is = refl

@@ -20,26 +20,26 @@ use Rattle.agent_control.specs.Stopping.{FindsLess, AtAnEnd, AtTheLimit, AtATrig
 use Rattle.broker_task.specs.Moving.{has_not_greeted, all_held, greeting_waits, letter_waits}
 use Rattle.standstill_laws.specs.Page.{IsStanding, IsStillPage, HasNoRoom, HasLess, StandsStill}
 use Rattle.standstill_laws.specs.Saying.{Fits, AnswerStill, FailsStill, LessStill, AgentsHaveSaidAll, BrokerHasSaidAll}
-use Rattle.standstill_laws.proofs.PageLaws.{stands-still, write-order-is}
+use Rattle.standstill_laws.proofs.PageLaws.{stands_still, write_order_is}
 
-page-of : (core : Core) → IsStillPage core → StandsStill core
-page-of core p = stands-still core p.lawful p.server_found p.client_found
+page_of : (core : Core) → IsStillPage core → StandsStill core
+page_of core p = stands_still core p.lawful p.server_found p.client_found
 
 there : (core : Core) → IsStillPage core → (who : Role) → (side_of core (peer who)).state ≢ Shut
 there core p Server = p.client_opened
 there core p Client = p.server_opened
 
-shut-by : (e : Standing) (n : ℕ) (loads : Loads) → SendCause e n loads TellsClosed → FoundShut loads
-shut-by e n loads (send_closed shut is) = shut
-shut-by e n loads (send_no_room last last_is open_then less is) = cc
-shut-by e n loads (sent_all last last_is open_then enough is) = cc
+shut_by : (e : Standing) (n : ℕ) (loads : Loads) → SendCause e n loads TellsClosed → FoundShut loads
+shut_by e n loads (send_closed shut is) = shut
+shut_by e n loads (send_no_room last last_is open_then less is) = cc
+shut_by e n loads (sent_all last last_is open_then enough is) = cc
 
-fits-order : (core : Core) (who : Role) (e : Standing) (n count : ℕ) → IsStanding core who e → Fits core who count → n ≤ count → n ≤ size (write_order e)
-fits-order core who e n count stood fits less = subst (λ (o : Order). n ≤ size o) (sym (write-order-is core who e stood)) (omega (arith, fits, less))
+fits_order : (core : Core) (who : Role) (e : Standing) (n count : ℕ) → IsStanding core who e → Fits core who count → n ≤ count → n ≤ size (write_order e)
+fits_order core who e n count stood fits less = subst (λ (o : Order). n ≤ size o) (sym (write_order_is core who e stood)) (omega (arith, fits, less))
 
 -- no send of what fits the ring is still failing
-fails-never : (core : Core) → IsStillPage core → (who : Role) (bytes : List ℕ) (before now : SeatedEnd) (f : FailsToSend bytes before now) → ¬ FailsStill core who bytes before now f
-fails-never core p who bytes before now f s = by_answer f.answer f.refused f.cause s.found
+fails_never : (core : Core) → IsStillPage core → (who : Role) (bytes : List ℕ) (before now : SeatedEnd) (f : FailsToSend bytes before now) → ¬ FailsStill core who bytes before now f
+fails_never core p who bytes before now f s = by_answer f.answer f.refused f.cause s.found
   where
     begun : Standing
     begun = standing_of before.side
@@ -50,32 +50,32 @@ fails-never core p who bytes before now f s = by_answer f.answer f.refused f.cau
     by_answer : (answer : SendAnswer) → answer ≢ Sent → SendCause begun (most_asked bytes) loads (send_told (most_asked bytes) answer) → AnswerStill core who loads answer → ⊥
     by_answer Sent refused cause found = refused refl
     by_answer (NoRoom prod cons) refused cause found =
-        let fits : most_asked bytes ≤ size (write_order begun) = fits-order core who begun (most_asked bytes) (length bytes) s.stood s.fits (omega arith) in
-        (page-of core p).has_room who (record { begun = begun; stood = s.stood; loads = loads; prod = prod; cons = cons; lacks = HasNoRoom (most_asked bytes) fits cause; still = found })
+        let fits : most_asked bytes ≤ size (write_order begun) = fits_order core who begun (most_asked bytes) (length bytes) s.stood s.fits (omega arith) in
+        (page_of core p).has_room who (record { begun = begun; stood = s.stood; loads = loads; prod = prod; cons = cons; lacks = HasNoRoom (most_asked bytes) fits cause; still = found })
     by_answer PeerClosed refused cause found =
-        there core p who ((page-of core p).is_shut who (record { loads = loads; shut = shut-by begun (most_asked bytes) loads cause; still = found }))
+        there core p who ((page_of core p).is_shut who (record { loads = loads; shut = shut_by begun (most_asked bytes) loads cause; still = found }))
 
-less-never : (core : Core) → IsStillPage core → (who : Role) (count : ℕ) (before now : SeatedEnd) (f : FindsLess before now count) → ¬ LessStill core who count before now f
-less-never core p who count before now f s =
-    (page-of core p).has_room who (record {
+less_never : (core : Core) → IsStillPage core → (who : Role) (count : ℕ) (before now : SeatedEnd) (f : FindsLess before now count) → ¬ LessStill core who count before now f
+less_never core p who count before now f s =
+    (page_of core p).has_room who (record {
       begun = standing_of before.side;
       stood = s.stood;
       loads = loads_of (standing_of before.side) now.side.trail;
       prod = s.last.prod;
       cons = s.last.cons;
-      lacks = HasLess count f.room (fits-order core who (standing_of before.side) count count s.stood s.fits (omega arith)) f.less s.last_is f.cause;
+      lacks = HasLess count f.room (fits_order core who (standing_of before.side) count count s.stood s.fits (omega arith)) f.less s.last_is f.cause;
       still = s.found;
     })
 
-pub agents-have-said-all : AgentsHaveSaidAll
-agents-have-said-all core calls old new p (AtAnEnd w) still = absurd (fails-never core p Server _ w.before new.port.end w.fails still)
-agents-have-said-all core calls old new p (AtTheLimit none next) still = (none, inr next)
-agents-have-said-all core calls old new p (AtATrigger none (NothingIsDue held)) still = (none, inl held)
-agents-have-said-all core calls old new p (AtATrigger none (HasLessRoom w)) still = absurd (less-never core p Server _ w.before new.port.end w.finds still)
-agents-have-said-all core calls old new p (AtATrigger none (DidNotGo w)) still = absurd (fails-never core p Server _ w.before new.port.end w.finds still)
+pub agents_have_said_all_lem : AgentsHaveSaidAll
+agents_have_said_all_lem core calls old new p (AtAnEnd w) still = absurd (fails_never core p Server _ w.before new.port.end w.fails still)
+agents_have_said_all_lem core calls old new p (AtTheLimit none next) still = (none, inr next)
+agents_have_said_all_lem core calls old new p (AtATrigger none (NothingIsDue held)) still = (none, inl held)
+agents_have_said_all_lem core calls old new p (AtATrigger none (HasLessRoom w)) still = absurd (less_never core p Server _ w.before new.port.end w.finds still)
+agents_have_said_all_lem core calls old new p (AtATrigger none (DidNotGo w)) still = absurd (fails_never core p Server _ w.before new.port.end w.finds still)
 
-pub broker-has-said-all : BrokerHasSaidAll
-broker-has-said-all core line old new p (has_not_greeted none same) still = inl none
-broker-has-said-all core line old new p (all_held greets held same) still = inr (greets, held)
-broker-has-said-all core line old new p (greeting_waits none same fails) still = absurd (fails-never core p Client _ old new fails still)
-broker-has-said-all core line old new p (letter_waits at l greets is ready before same fails) still = absurd (fails-never core p Client _ old new fails still)
+pub broker_has_said_all_lem : BrokerHasSaidAll
+broker_has_said_all_lem core line old new p (has_not_greeted none same) still = inl none
+broker_has_said_all_lem core line old new p (all_held greets held same) still = inr (greets, held)
+broker_has_said_all_lem core line old new p (greeting_waits none same fails) still = absurd (fails_never core p Client _ old new fails still)
+broker_has_said_all_lem core line old new p (letter_waits at l greets is ready before same fails) still = absurd (fails_never core p Client _ old new fails still)

@@ -12,17 +12,17 @@ use Rattle.call_broker.specs.declared.decision.Entry.{Entry}
 use Rattle.call_broker.specs.Domains.{Domains}
 use Rattle.call_broker.specs.Pair.{Pair, PairState, Ordered, has, is_pair, pair_of, belongs, decides, settles, step, state_after, decision}
 use Rattle.call_broker.specs.Journal.{IsDecidedOn, events, drops, port_in, accepted_ports}
-use Rattle.call_broker.proofs.OpenLaws.{taken-view, taken-pair, terminated-takes-none}
-use Rattle.call_broker.proofs.PortLaws.{state-after}
-use Rattle.call_broker.proofs.StateLaws.{still-up, dropped-events, none-before}
-use Rattle.call_broker.proofs.TabledLaws.{own-pair}
+use Rattle.call_broker.proofs.OpenLaws.{taken_view, taken_pair, terminated_takes_none}
+use Rattle.call_broker.proofs.PortLaws.{state_after_lem}
+use Rattle.call_broker.proofs.StateLaws.{still_up, dropped_events, none_before}
+use Rattle.call_broker.proofs.TabledLaws.{own_pair}
 use Rattle.standstill_laws.specs.Settling.{ended_port, ended_ports, EndsInOrder, NoCallIsLive}
 
 -- ---- numbers in lists
 
-still-none : (p q : ℕ) (xs : List ℕ) → has p xs ≡ false → has p (filter (λ x. not (x == q)) xs) ≡ false
-still-none p q [] none = refl
-still-none p q (x ∷ xs) none = by_head (x == p) refl none (x == q) (still-none p q xs)
+still_none : (p q : ℕ) (xs : List ℕ) → has p xs ≡ false → has p (filter (λ x. not (x == q)) xs) ≡ false
+still_none p q [] none = refl
+still_none p q (x ∷ xs) none = by_head (x == p) refl none (x == q) (still_none p q xs)
   where
     by_head : (b : Bool) → (x == p) ≡ b → (b || has p xs) ≡ false → (c : Bool) → (has p xs ≡ false → has p (filter (λ y. not (y == q)) xs) ≡ false)
         → has p (if not c then x ∷ filter (λ y. not (y == q)) xs else filter (λ y. not (y == q)) xs) ≡ false
@@ -30,17 +30,17 @@ still-none p q (x ∷ xs) none = by_head (x == p) refl none (x == q) (still-none
     by_head false is none true rest = rest none
     by_head false is none false rest = rw is (rest none)
 
-left-out : (p : ℕ) (xs : List ℕ) → has p (filter (λ x. not (x == p)) xs) ≡ false
-left-out p [] = refl
-left-out p (x ∷ xs) = by_head (x == p) refl (left-out p xs)
+left_out : (p : ℕ) (xs : List ℕ) → has p (filter (λ x. not (x == p)) xs) ≡ false
+left_out p [] = refl
+left_out p (x ∷ xs) = by_head (x == p) refl (left_out p xs)
   where
     by_head : (b : Bool) → (x == p) ≡ b → has p (filter (λ y. not (y == p)) xs) ≡ false → has p (if not b then x ∷ filter (λ y. not (y == p)) xs else filter (λ y. not (y == p)) xs) ≡ false
     by_head true is rest = rest
     by_head false is rest = rw is rest
 
-none-has : (xs : List ℕ) → ((p : ℕ) → has p xs ≡ false) → xs ≡ []
-none-has [] none = refl
-none-has (x ∷ xs) none = absurd (first (none x))
+none_has : (xs : List ℕ) → ((p : ℕ) → has p xs ≡ false) → xs ≡ []
+none_has [] none = refl
+none_has (x ∷ xs) none = absurd (first (none x))
   where
     first : (x == x || has x xs) ≡ false → ⊥
     first is = let self : (x == x) ≡ true = grind (arith, nat_tests) in let bad : (true || has x xs) ≡ false = ap (λ (b : Bool). b || has x xs) (sym self) ∙ is in cc
@@ -48,103 +48,103 @@ none-has (x ∷ xs) none = absurd (first (none x))
 -- ---- one event
 
 -- a port that isn't live comes to be so only if a call is let through there
-settles-none : (s : PairState) (e : Event) (x : Decision) (p : ℕ) → has p s.live ≡ false → ((to port : ℕ) → x ≡ Accepted to port → (port == p) ≡ false) → has p (settles s e x).live ≡ false
-settles-none s (Dropped domain) x p none apart = refl
-settles-none s (Trigger from target service ident) (Accepted to port) p none apart = rw (apart to port refl) none
-settles-none s (Trigger from target service ident) (Refused cause) p none apart = none
-settles-none s (Trigger from target service ident) (Ended a b q) p none apart = still-none p q s.live none
-settles-none s (Trigger from target service ident) PassedOver p none apart = none
-settles-none s (Terminated from other r) (Accepted to port) p none apart = rw (apart to port refl) none
-settles-none s (Terminated from other r) (Refused cause) p none apart = none
-settles-none s (Terminated from other r) (Ended a b q) p none apart = still-none p q s.live none
-settles-none s (Terminated from other r) PassedOver p none apart = none
+settles_none : (s : PairState) (e : Event) (x : Decision) (p : ℕ) → has p s.live ≡ false → ((to port : ℕ) → x ≡ Accepted to port → (port == p) ≡ false) → has p (settles s e x).live ≡ false
+settles_none s (Dropped domain) x p none apart = refl
+settles_none s (Trigger from target service ident) (Accepted to port) p none apart = rw (apart to port refl) none
+settles_none s (Trigger from target service ident) (Refused cause) p none apart = none
+settles_none s (Trigger from target service ident) (Ended a b q) p none apart = still_none p q s.live none
+settles_none s (Trigger from target service ident) PassedOver p none apart = none
+settles_none s (Terminated from other r) (Accepted to port) p none apart = rw (apart to port refl) none
+settles_none s (Terminated from other r) (Refused cause) p none apart = none
+settles_none s (Terminated from other r) (Ended a b q) p none apart = still_none p q s.live none
+settles_none s (Terminated from other r) PassedOver p none apart = none
 
 -- a call of the pair that is let through has its port in the journal
-accepts-in : (hub : Domains) (before : List Event) (f t : ℕ) (e : Event) (to port : ℕ) → pair_of hub e ≡ Ordered f t → decision hub before e ≡ Accepted to port → port_in f t e (Accepted to port) ≡ Some port
-accepts-in hub before f t (Trigger from target service ident) to port pair is =
-    let taken = taken-pair hub before from target service ident to port (taken-view hub before from target service ident to port is) in
+accepts_in : (hub : Domains) (before : List Event) (f t : ℕ) (e : Event) (to port : ℕ) → pair_of hub e ≡ Ordered f t → decision hub before e ≡ Accepted to port → port_in f t e (Accepted to port) ≡ Some port
+accepts_in hub before f t (Trigger from target service ident) to port pair is =
+    let taken = taken_pair hub before from target service ident to port (taken_view hub before from target service ident to port is) in
     let same : Ordered from to ≡ Ordered f t = sym taken ∙ pair in
     let first : from ≡ f = cc in
     let second : to ≡ t = cc in
     let one : (from == f) ≡ true = grind (arith, nat_tests, first) in
     let two : (to == t) ≡ true = grind (arith, nat_tests, second) in
     rw (one, two) refl
-accepts-in hub before f t (Terminated from other q) to port pair is = absurd (terminated-takes-none hub before from other q to port (sym is))
-accepts-in hub before f t (Dropped domain) to port pair is = cc
+accepts_in hub before f t (Terminated from other q) to port pair is = absurd (terminated_takes_none hub before from other q to port (sym is))
+accepts_in hub before f t (Dropped domain) to port pair is = cc
 
-option-parts : (p : ℕ) (o : Option ℕ) (rest : List ℕ) → has p (cons_option o rest) ≡ false → (has p (cons_option o []) ≡ false) × (has p rest ≡ false)
-option-parts p None rest none = (refl, none)
-option-parts p (Some q) rest none = by_head (q == p) none
+option_parts : (p : ℕ) (o : Option ℕ) (rest : List ℕ) → has p (cons_option o rest) ≡ false → (has p (cons_option o []) ≡ false) × (has p rest ≡ false)
+option_parts p None rest none = (refl, none)
+option_parts p (Some q) rest none = by_head (q == p) none
   where
     by_head : (b : Bool) → (b || has p rest) ≡ false → ((b || false) ≡ false) × (has p rest ≡ false)
     by_head true is = cc
     by_head false is = (refl, is)
 
-step-own : (hub : Domains) (before : List Event) (f t : ℕ) (e : Event) (p : ℕ) → has p (state_after hub before (Ordered f t)).live ≡ false → has p (cons_option (port_in f t e (decision hub before e)) []) ≡ false
+step_own : (hub : Domains) (before : List Event) (f t : ℕ) (e : Event) (p : ℕ) → has p (state_after hub before (Ordered f t)).live ≡ false → has p (cons_option (port_in f t e (decision hub before e)) []) ≡ false
     → (b : Bool) → is_pair (pair_of hub e) (Ordered f t) ≡ b → has p (if b then settles (state_after hub before (Ordered f t)) e (decides hub (Ordered f t) (state_after hub before (Ordered f t)) e) else state_after hub before (Ordered f t)).live ≡ false
-step-own hub before f t e p none apart false is = none
-step-own hub before f t e p none apart true is =
-    let pair = own-pair (pair_of hub e) f t is in
+step_own hub before f t e p none apart false is = none
+step_own hub before f t e p none apart true is =
+    let pair = own_pair (pair_of hub e) f t is in
     let same : decides hub (Ordered f t) (state_after hub before (Ordered f t)) e ≡ decision hub before e = ap (λ (q : Pair). decides hub q (state_after hub before q) e) (sym pair) in
-    settles-none (state_after hub before (Ordered f t)) e (decides hub (Ordered f t) (state_after hub before (Ordered f t)) e) p none (λ to port accepted. other pair to port (sym same ∙ accepted))
+    settles_none (state_after hub before (Ordered f t)) e (decides hub (Ordered f t) (state_after hub before (Ordered f t)) e) p none (λ to port accepted. other pair to port (sym same ∙ accepted))
   where
-    or-first : (b : Bool) → (b || false) ≡ false → b ≡ false
-    or-first true h = cc
-    or-first false h = refl
+    or_first : (b : Bool) → (b || false) ≡ false → b ≡ false
+    or_first true h = cc
+    or_first false h = refl
 
     other : pair_of hub e ≡ Ordered f t → (to port : ℕ) → decision hub before e ≡ Accepted to port → (port == p) ≡ false
     other pair to port accepted =
-        or-first (port == p) (subst (λ (o : Option ℕ). has p (cons_option o []) ≡ false) (ap (λ (x : Decision). port_in f t e x) accepted ∙ accepts-in hub before f t e to port pair accepted) apart)
+        or_first (port == p) (subst (λ (o : Option ℕ). has p (cons_option o []) ≡ false) (ap (λ (x : Decision). port_in f t e x) accepted ∙ accepts_in hub before f t e to port pair accepted) apart)
 
-step-none : (hub : Domains) (before : List Event) (f t : ℕ) (e : Event) (p : ℕ) → has p (state_after hub before (Ordered f t)).live ≡ false → has p (cons_option (port_in f t e (decision hub before e)) []) ≡ false
+step_none : (hub : Domains) (before : List Event) (f t : ℕ) (e : Event) (p : ℕ) → has p (state_after hub before (Ordered f t)).live ≡ false → has p (cons_option (port_in f t e (decision hub before e)) []) ≡ false
     → has p (step hub (Ordered f t) (state_after hub before (Ordered f t)) e).live ≡ false
-step-none hub before f t (Dropped domain) p none apart = by_own (belongs hub (Ordered f t) (Dropped domain))
+step_none hub before f t (Dropped domain) p none apart = by_own (belongs hub (Ordered f t) (Dropped domain))
   where
     by_own : (b : Bool) → has p (if b then settles (state_after hub before (Ordered f t)) (Dropped domain) PassedOver else state_after hub before (Ordered f t)).live ≡ false
     by_own true = refl
     by_own false = none
-step-none hub before f t (Trigger from target service ident) p none apart = step-own hub before f t (Trigger from target service ident) p none apart (is_pair (pair_of hub (Trigger from target service ident)) (Ordered f t)) refl
-step-none hub before f t (Terminated from other port) p none apart = step-own hub before f t (Terminated from other port) p none apart (is_pair (pair_of hub (Terminated from other port)) (Ordered f t)) refl
+step_none hub before f t (Trigger from target service ident) p none apart = step_own hub before f t (Trigger from target service ident) p none apart (is_pair (pair_of hub (Trigger from target service ident)) (Ordered f t)) refl
+step_none hub before f t (Terminated from other port) p none apart = step_own hub before f t (Terminated from other port) p none apart (is_pair (pair_of hub (Terminated from other port)) (Ordered f t)) refl
 
 -- the end of a session leaves no call live at its port
-end-none : (hub : Domains) (before : List Event) (f t from other port : ℕ) → list_any (drops from) before ≡ false → belongs hub (Ordered f t) (Terminated from other port) ≡ true
+end_none : (hub : Domains) (before : List Event) (f t from other port : ℕ) → list_any (drops from) before ≡ false → belongs hub (Ordered f t) (Terminated from other port) ≡ true
     → has port (step hub (Ordered f t) (state_after hub before (Ordered f t)) (Terminated from other port)).live ≡ false
-end-none hub before f t from other port up own = rw (own, still-up hub (Ordered f t) from before up) (by_live (has port (state_after hub before (Ordered f t)).live) refl)
+end_none hub before f t from other port up own = rw (own, still_up hub (Ordered f t) from before up) (by_live (has port (state_after hub before (Ordered f t)).live) refl)
   where
     s : PairState
     s = state_after hub before (Ordered f t)
 
     by_live : (b : Bool) → has port s.live ≡ b → has port (settles s (Terminated from other port) (if b then Ended f t port else PassedOver)).live ≡ false
-    by_live true is = left-out port s.live
+    by_live true is = left_out port s.live
     by_live false is = is
 
 -- ---- the whole journal
 
-not-live : (hub : Domains) (f t : ℕ) (before : List Event) (journal : List Entry) (p : ℕ) → IsDecidedOn hub before journal → has p (state_after hub before (Ordered f t)).live ≡ false → has p (accepted_ports journal f t) ≡ false
+not_live : (hub : Domains) (f t : ℕ) (before : List Event) (journal : List Entry) (p : ℕ) → IsDecidedOn hub before journal → has p (state_after hub before (Ordered f t)).live ≡ false → has p (accepted_ports journal f t) ≡ false
     → has p (state_after hub (before ++ events journal) (Ordered f t)).live ≡ false
-not-live hub f t before [] p decided none apart = subst (λ (es : List Event). has p (state_after hub es (Ordered f t)).live ≡ false) (sym (append-nil before)) none
-not-live hub f t before (x ∷ journal) p decided none apart =
-    let parts = option-parts p (port_in f t x.event x.decision) (accepted_ports journal f t) apart in
+not_live hub f t before [] p decided none apart = subst (λ (es : List Event). has p (state_after hub es (Ordered f t)).live ≡ false) (sym (append-nil before)) none
+not_live hub f t before (x ∷ journal) p decided none apart =
+    let parts = option_parts p (port_in f t x.event x.decision) (accepted_ports journal f t) apart in
     let here = subst (λ (d : Decision). has p (cons_option (port_in f t x.event d) []) ≡ false) decided.0 parts.0 in
-    let next = subst (λ (s : PairState). has p s.live ≡ false) (sym (state-after hub (Ordered f t) before x.event)) (step-none hub before f t x.event p none here) in
-    subst (λ (es : List Event). has p (state_after hub es (Ordered f t)).live ≡ false) (append_assoc before (x.event ∷ []) (events journal)) (not-live hub f t (before ++ x.event ∷ []) journal p decided.1 next parts.1)
+    let next = subst (λ (s : PairState). has p s.live ≡ false) (sym (state_after_lem hub (Ordered f t) before x.event)) (step_none hub before f t x.event p none here) in
+    subst (λ (es : List Event). has p (state_after hub es (Ordered f t)).live ≡ false) (append_assoc before (x.event ∷ []) (events journal)) (not_live hub f t (before ++ x.event ∷ []) journal p decided.1 next parts.1)
 
-ended-none : (hub : Domains) (f t : ℕ) (before : List Event) (journal : List Entry) (p : ℕ) → IsDecidedOn hub before journal → EndsInOrder hub f t journal → ((d : ℕ) → list_any (drops d) (before ++ events journal) ≡ false)
+ended_none : (hub : Domains) (f t : ℕ) (before : List Event) (journal : List Entry) (p : ℕ) → IsDecidedOn hub before journal → EndsInOrder hub f t journal → ((d : ℕ) → list_any (drops d) (before ++ events journal) ≡ false)
     → has p (ended_ports hub journal f t) ≡ true → has p (state_after hub (before ++ events journal) (Ordered f t)).live ≡ false
-ended-none hub f t before [] p decided order up ended = cc
-ended-none hub f t before (x ∷ journal) p decided order up ended =
+ended_none hub f t before [] p decided order up ended = cc
+ended_none hub f t before (x ∷ journal) p decided order up ended =
     subst (λ (es : List Event). has p (state_after hub es (Ordered f t)).live ≡ false) (append_assoc before (x.event ∷ []) (events journal))
-    (by_event x.event refl ended (ended-none hub f t (before ++ x.event ∷ []) journal p decided.1 order.1 (λ d. subst (λ (es : List Event). list_any (drops d) es ≡ false) (sym (append_assoc before (x.event ∷ []) (events journal))) (up d))))
+    (by_event x.event refl ended (ended_none hub f t (before ++ x.event ∷ []) journal p decided.1 order.1 (λ d. subst (λ (es : List Event). list_any (drops d) es ≡ false) (sym (append_assoc before (x.event ∷ []) (events journal))) (up d))))
   where
     Goal : Type 0
     Goal = has p (state_after hub ((before ++ x.event ∷ []) ++ events journal) (Ordered f t)).live ≡ false
 
     here : (from other port : ℕ) → x.event ≡ Terminated from other port → belongs hub (Ordered f t) (Terminated from other port) ≡ true → port ≡ p → Goal
     here from other port is own same =
-        let gone = end-none hub before f t from other port (none-before from before (x.event ∷ events journal) (up from)) own in
-        let next = subst (λ (s : PairState). has port s.live ≡ false) (sym (state-after hub (Ordered f t) before x.event)) (subst (λ (e : Event). has port (step hub (Ordered f t) (state_after hub before (Ordered f t)) e).live ≡ false) (sym is) gone) in
+        let gone = end_none hub before f t from other port (none_before from before (x.event ∷ events journal) (up from)) own in
+        let next = subst (λ (s : PairState). has port s.live ≡ false) (sym (state_after_lem hub (Ordered f t) before x.event)) (subst (λ (e : Event). has port (step hub (Ordered f t) (state_after hub before (Ordered f t)) e).live ≡ false) (sym is) gone) in
         let told : ended_port hub f t x.event ≡ Some port = ap (ended_port hub f t) is ∙ ap (λ (b : Bool). if b then Some port else None) own in
-        subst (λ (q : ℕ). has q (state_after hub ((before ++ x.event ∷ []) ++ events journal) (Ordered f t)).live ≡ false) same (not-live hub f t (before ++ x.event ∷ []) journal port decided.1 next (order.0 port told))
+        subst (λ (q : ℕ). has q (state_after hub ((before ++ x.event ∷ []) ++ events journal) (Ordered f t)).live ≡ false) same (not_live hub f t (before ++ x.event ∷ []) journal port decided.1 next (order.0 port told))
 
     by_port : (from other port : ℕ) → x.event ≡ Terminated from other port → belongs hub (Ordered f t) (Terminated from other port) ≡ true → (b : Bool) → (port == p) ≡ b → (b || has p (ended_ports hub journal f t)) ≡ true
         → (has p (ended_ports hub journal f t) ≡ true → Goal) → Goal
@@ -161,9 +161,9 @@ ended-none hub f t before (x ∷ journal) p decided order up ended =
     by_event (Dropped domain) is h rest = rest h
     by_event (Terminated from other port) is h rest = by_own from other port is (belongs hub (Ordered f t) (Terminated from other port)) refl h rest
 
-pub no-call-is-live : NoCallIsLive
-no-call-is-live hub journal f t decided up order ended = none-has (state_after hub (events journal) (Ordered f t)).live (λ p. by_accepted p (has p (accepted_ports journal f t)) refl)
+pub no_call_is_live_lem : NoCallIsLive
+no_call_is_live_lem hub journal f t decided up order ended = none_has (state_after hub (events journal) (Ordered f t)).live (λ p. by_accepted p (has p (accepted_ports journal f t)) refl)
   where
     by_accepted : (p : ℕ) → (b : Bool) → has p (accepted_ports journal f t) ≡ b → has p (state_after hub (events journal) (Ordered f t)).live ≡ false
-    by_accepted p true is = ended-none hub f t [] journal p decided order (λ d. dropped-events d journal ∙ up d) (ended p is)
-    by_accepted p false is = not-live hub f t [] journal p decided refl is
+    by_accepted p true is = ended_none hub f t [] journal p decided order (λ d. dropped_events d journal ∙ up d) (ended p is)
+    by_accepted p false is = not_live hub f t [] journal p decided refl is

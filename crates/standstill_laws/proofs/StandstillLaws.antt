@@ -23,33 +23,33 @@ use Rattle.standstill_laws.specs.Letters.{AreAtRest}
 use Rattle.standstill_laws.specs.Asking.{heard_so_far, HearsInOrder, HasAskedAll}
 use Rattle.standstill_laws.specs.Settling.{IsDone}
 use Rattle.standstill_laws.specs.Standstill.{SessionStandsStill, IsShut, AsCaller, AsServing, AgentStandsStill, DomainStandsStill, RunsDoNotStandStill, NoAgentIsLeft}
-use Rattle.standstill_laws.proofs.SayingLaws.{agents-have-said-all}
-use Rattle.standstill_laws.proofs.LetterLaws.{all-answers-are-said, all-answers-are-heard}
-use Rattle.standstill_laws.proofs.AnswerLaws.{all-calls-are-answered, broker-reads}
-use Rattle.standstill_laws.proofs.OverLaws.{no-session-is-open, peer-is-there}
-use Rattle.standstill_laws.proofs.AskingLaws.{agents-have-asked-all}
-use Rattle.standstill_laws.proofs.OrderLaws.{ends-come-in-order}
-use Rattle.standstill_laws.proofs.EarlyLaws.{agents-hear-in-order}
-use Rattle.standstill_laws.proofs.DoneLaws.{all-are-settled}
+use Rattle.standstill_laws.proofs.SayingLaws.{agents_have_said_all_lem}
+use Rattle.standstill_laws.proofs.LetterLaws.{all_answers_are_said_lem, all_answers_are_heard_lem}
+use Rattle.standstill_laws.proofs.AnswerLaws.{all_calls_are_answered_lem, broker_reads}
+use Rattle.standstill_laws.proofs.OverLaws.{no_session_is_open_lem, peer_is_there_lem}
+use Rattle.standstill_laws.proofs.AskingLaws.{agents_have_asked_all_lem}
+use Rattle.standstill_laws.proofs.OrderLaws.{ends_come_in_order_lem}
+use Rattle.standstill_laws.proofs.EarlyLaws.{agents_hear_in_order_lem}
+use Rattle.standstill_laws.proofs.DoneLaws.{all_are_settled_lem}
 use Rattle.qrexec_data.specs.Laws.{IsVersion}
 
 -- ---- sessions
 
-ended-shut : (s : Session) → has_ended s ≡ true → is_open s ≡ false
-ended-shut NotBegun is = refl
-ended-shut (CallsWith at) is = cc
-ended-shut AwaitsPage is = cc
-ended-shut (ServesWith at) is = cc
-ended-shut (EndedWith end) is = refl
+ended_shut : (s : Session) → has_ended s ≡ true → is_open s ≡ false
+ended_shut NotBegun is = refl
+ended_shut (CallsWith at) is = cc
+ended_shut AwaitsPage is = cc
+ended_shut (ServesWith at) is = cc
+ended_shut (EndedWith end) is = refl
 
-rests-shut : (version : ℕ) (s : Session) → IsVersion version → SessionStandsStill version s → is_open s ≡ false
-rests-shut version s own (IsShut is) = is
-rests-shut version s own (AsCaller core other peer lawful theirs mine yours) = ended-shut s (no-session-is-open core version other s peer lawful own theirs mine yours).0
-rests-shut version s own (AsServing core other peer lawful theirs yours mine) = ended-shut s (no-session-is-open core other version peer s lawful theirs own yours mine).1
+rests_shut : (version : ℕ) (s : Session) → IsVersion version → SessionStandsStill version s → is_open s ≡ false
+rests_shut version s own (IsShut is) = is
+rests_shut version s own (AsCaller core other peer lawful theirs mine yours) = ended_shut s (no_session_is_open_lem core version other s peer lawful own theirs mine yours).0
+rests_shut version s own (AsServing core other peer lawful theirs yours mine) = ended_shut s (no_session_is_open_lem core other version peer s lawful theirs own yours mine).1
 
-none-opened : (task : AgentState) (opened : List (ℕ × ℕ)) → Each (IsOpenSession task) opened → ((i : ℕ) → is_open (session_at task.sessions i) ≡ false) → opened ≡ []
-none-opened task [] each shut = refl
-none-opened task (s ∷ opened) each shut = let bad : true ≡ false = sym each.0.is_open ∙ shut each.0.at in cc
+none_opened : (task : AgentState) (opened : List (ℕ × ℕ)) → Each (IsOpenSession task) opened → ((i : ℕ) → is_open (session_at task.sessions i) ≡ false) → opened ≡ []
+none_opened task [] each shut = refl
+none_opened task (s ∷ opened) each shut = let bad : true ≡ false = sym each.0.is_open ∙ shut each.0.at in cc
 
 -- ---- one domain
 
@@ -64,8 +64,8 @@ done hub awaited journal said lines decided up holds kept rest place r = record 
   triggers = all.asked;
   told = all.told;
   hears = hears;
-  reads = r.attended.reads ∙ ap (filter_map (event_of (place + 1))) (broker-reads hub journal said lines rest place r.line r.there r.up a.channel.port r.port sent heard r.heard r.port_is r.own talks r.talks);
-  all_said = (all-answers-are-said hub journal said lines holds kept rest place r.line r.there r.up).1;
+  reads = r.attended.reads ∙ ap (filter_map (event_of (place + 1))) (broker_reads hub journal said lines rest place r.line r.there r.up a.channel.port r.port sent heard r.heard r.port_is r.own talks r.talks);
+  all_said = (all_answers_are_said_lem hub journal said lines holds kept rest place r.line r.there r.up).1;
 }
   where
     core : Core
@@ -87,31 +87,31 @@ done hub awaited journal said lines decided up holds kept rest place r = record 
     talks = record { end = a.end; talker_is = channel.talker; own = subst IsVersion (sym channel.own) a.tells.acts.version; says = channel.says; hears = channel.hears }
 
     hears : IsPermutation heard (outbox hub journal (place + 1))
-    hears = all-answers-are-heard hub journal said lines holds kept rest place r.line r.there r.up a.channel.port r.port sent heard r.heard r.port_is talks r.talks
+    hears = all_answers_are_heard_lem hub journal said lines holds kept rest place r.line r.there r.up a.channel.port r.port sent heard r.heard r.port_is talks r.talks
 
     in_order : HearsInOrder r.task sent
     in_order =
-        agents-hear-in-order hub journal r.task a.tells a.channel a.channel_is decided a.differ (subst (λ (d : ℕ). IsPermutation heard (outbox hub journal d)) (sym r.domain) hears) a.given
-        (all-calls-are-answered hub journal said lines decided holds kept rest place r.line r.there r.up (up (place + 1)) a.channel.port r.port sent heard r.heard r.port_is r.own r.attended talks r.talks) a.order
+        agents_hear_in_order_lem hub journal r.task a.tells a.channel a.channel_is decided a.differ (subst (λ (d : ℕ). IsPermutation heard (outbox hub journal d)) (sym r.domain) hears) a.given
+        (all_calls_are_answered_lem hub journal said lines decided holds kept rest place r.line r.there r.up (up (place + 1)) a.channel.port r.port sent heard r.heard r.port_is r.own r.attended talks r.talks) a.order
 
     said_all : (a.channel.unsaid.items ≡ []) × (IsHeld a.channel.queue ⊎ (a.channel.queue.next ≡ a.before.queue.next + a.calls))
-    said_all = agents-have-said-all core a.calls a.before a.channel (rest place r.line r.there r.up).page a.stops a.still
+    said_all = agents_have_said_all_lem core a.calls a.before a.channel (rest place r.line r.there r.up).page a.stops a.still
 
     held : IsHeld a.channel.queue ⊎ (a.channel.queue.next ≡ a.before.queue.next + a.calls) → IsHeld a.channel.queue
     held (inl is) = is
     held (inr more) = absurd (omega (arith, more, a.none_asked, a.some))
 
     shut : r.task.opened ≡ []
-    shut = none-opened r.task r.task.opened a.tells.acts.opened (λ i. rests-shut r.task.plan.version (session_at r.task.sessions i) a.tells.acts.version (a.sessions i))
+    shut = none_opened r.task r.task.opened a.tells.acts.opened (λ i. rests_shut r.task.plan.version (session_at r.task.sessions i) a.tells.acts.version (a.sessions i))
 
     all : HasAskedAll r.task sent
-    all = agents-have-asked-all r.task a.tells a.channel a.channel_is a.up shut said_all.0 (held said_all.1) a.differ in_order
+    all = agents_have_asked_all_lem r.task a.tells a.channel a.channel_is a.up shut said_all.0 (held said_all.1) a.differ in_order
 
 -- ---- the law
 
-pub runs-do-not-stand-still : RunsDoNotStandStill
-runs-do-not-stand-still hub awaited journal said lines decided grown up holds kept rest domains =
-    all-are-settled hub awaited journal said decided up (λ f t. ends-come-in-order hub journal f t decided grown) each
+pub runs_do_not_stand_still_lem : RunsDoNotStandStill
+runs_do_not_stand_still_lem hub awaited journal said lines decided grown up holds kept rest domains =
+    all_are_settled_lem hub awaited journal said decided up (λ f t. ends_come_in_order_lem hub journal f t decided grown) each
   where
     each : (d : ℕ) → is_domain hub d ≡ true → IsDone hub awaited journal said d
     each d there =
@@ -122,9 +122,9 @@ runs-do-not-stand-still hub awaited journal said lines decided grown up holds ke
         let less : d - 1 < count_of hub = omega (arith, least, most) in
         subst (λ (n : ℕ). IsDone hub awaited journal said n) number (done hub awaited journal said lines decided up holds kept rest (d - 1) (domains (d - 1) less))
 
-pub no-agent-is-left : NoAgentIsLeft
-no-agent-is-left core task left (inl up) =
-    let here : core.client.retired ≡ false = peer-is-there core Server left.before left.now left.lawful (left.waits up) left.still in
+pub no_agent_is_left_lem : NoAgentIsLeft
+no_agent_is_left_lem core task left (inl up) =
+    let here : core.client.retired ≡ false = peer_is_there_lem core Server left.before left.now left.lawful (left.waits up) left.still in
     let bad : true ≡ false = sym left.retired ∙ here in
     cc
-no-agent-is-left core task left (inr some) = some (none-opened task task.opened left.tells.acts.opened (λ i. rests-shut task.plan.version (session_at task.sessions i) left.tells.acts.version (left.sessions i)))
+no_agent_is_left_lem core task left (inr some) = some (none_opened task task.opened left.tells.acts.opened (λ i. rests_shut task.plan.version (session_at task.sessions i) left.tells.acts.version (left.sessions i)))

@@ -21,36 +21,36 @@ use Rattle.qrexec_data.specs.CallerSide.{CallerStandsFor}
 use Rattle.qrexec_data.specs.ServingSide.{ServingStandsFor}
 use Rattle.standstill_laws.specs.Page.{IsStanding, FoundNothing, IsFull, StandsStill}
 use Rattle.standstill_laws.specs.Turns.{SendsStill, IsQuietStill, NoSessionStandsStill}
-use Rattle.standstill_laws.proofs.PageLaws.{stands-still}
-use Rattle.standstill_laws.proofs.SessionLaws.{sessions-go-on}
+use Rattle.standstill_laws.proofs.PageLaws.{stands_still}
+use Rattle.standstill_laws.proofs.SessionLaws.{sessions_go_on_lem}
 
 -- a write answers that the peer is shut only if it found it so
-closed-by : (e : Standing) (n : ℕ) (loads : Loads) → WriteCause e n loads PeerClosed → FoundShut loads
-closed-by e n loads (write_closed shut is) = shut
-closed-by e n loads (wrote_none there none is) = cc
-closed-by e n loads (write_full last last_is there some none is) = cc
-closed-by e n loads (wrote_some last last_is there some room is) = cc
+closed_by : (e : Standing) (n : ℕ) (loads : Loads) → WriteCause e n loads PeerClosed → FoundShut loads
+closed_by e n loads (write_closed shut is) = shut
+closed_by e n loads (wrote_none there none is) = cc
+closed_by e n loads (write_full last last_is there some none is) = cc
+closed_by e n loads (wrote_some last last_is there some room is) = cc
 
 -- an end of the page by its role has that role and the page's orders
-is-end : (core : Core) (who : Role) → Lawful core → IsEnd who core.orders (side_of core who)
-is-end core Server lawful = lawful.server_end
-is-end core Client lawful = lawful.client_end
+is_end : (core : Core) (who : Role) → Lawful core → IsEnd who core.orders (side_of core who)
+is_end core Server lawful = lawful.server_end
+is_end core Client lawful = lawful.client_end
 
 -- so had it before its last calls
 stood : (core : Core) (who : Role) (before now : SeatedEnd) → Lawful core → IsSameEnd before now → now.side ≡ side_of core who → IsStanding core who (standing_of before.side)
 stood core who before now lawful same is =
-    let end = is-end core who lawful in
+    let end = is_end core who lawful in
     (sym same.1 ∙ ap (λ (x : Side). x.role) is ∙ end.role_is, sym same.2 ∙ ap (λ (x : Side). x.orders) is ∙ end.orders_are)
 
 -- an end that has seen its peer's end has a peer that is shut
-peer-is-shut : (core : Core) (who : Role) → Lawful core → (side_of core who).saw ≡ true → (side_of core (peer who)).state ≡ Shut
-peer-is-shut core Server lawful saw = lawful.lives.server_sight.saw saw
-peer-is-shut core Client lawful saw = lawful.lives.client_sight.saw saw
+peer_is_shut : (core : Core) (who : Role) → Lawful core → (side_of core who).saw ≡ true → (side_of core (peer who)).state ≡ Shut
+peer_is_shut core Server lawful saw = lawful.lives.server_sight.saw saw
+peer_is_shut core Client lawful saw = lawful.lives.client_sight.saw saw
 
 -- the drain of a quiet turn that is still so
-found-nothing : (core : Core) (who : Role) (still : Type 0) (waiting : List ℕ) (was_shut : Bool) (before now : SeatedEnd) (q : IsQuiet still waiting was_shut before now) → Lawful core
+found_nothing : (core : Core) (who : Role) (still : Type 0) (waiting : List ℕ) (was_shut : Bool) (before now : SeatedEnd) (q : IsQuiet still waiting was_shut before now) → Lawful core
     → IsQuietStill core who still waiting was_shut before now q → FoundNothing core who
-found-nothing core who still waiting was_shut before now q lawful h = record {
+found_nothing core who still waiting was_shut before now q lawful h = record {
   begun = standing_of q.found.side;
   stood = stood core who q.found now lawful (q.same_now.0 ∙ q.same_left.0, q.same_now.1 ∙ q.same_left.1, q.same_now.2 ∙ q.same_left.2, q.same_now.3 ∙ q.same_left.3) h.is_now;
   most = q.not_yet.most;
@@ -62,12 +62,12 @@ found-nothing core who still waiting was_shut before now q lawful h = record {
 }
 
 -- where the page stands still and the peer is open, nothing went since there was nothing to send
-nothing-waits : (core : Core) (who : Role) (still : Type 0) (waiting : List ℕ) (was_shut : Bool) (before now : SeatedEnd) → Lawful core → StandsStill core → (side_of core (peer who)).state ≢ Shut
+nothing_waits : (core : Core) (who : Role) (still : Type 0) (waiting : List ℕ) (was_shut : Bool) (before now : SeatedEnd) → Lawful core → StandsStill core → (side_of core (peer who)).state ≢ Shut
     → IsSameEnd before now → now.side ≡ side_of core who → (sends : SendsNone still waiting was_shut before now) → SendsStill core who still waiting was_shut before now sends → still
-nothing-waits core who still waiting was_shut before now lawful page there same is (NothingWaits none kept) h = none
-nothing-waits core who still waiting was_shut before now lawful page there same is (WasShut was saw kept) h =
-    absurd (there (peer-is-shut core who lawful (sym (ap (λ (x : Side). x.saw) is) ∙ ap (λ (e : SeatedEnd). e.side.saw) kept ∙ saw)))
-nothing-waits core who still waiting was_shut before now lawful page there same is (RingIsFull some full) h =
+nothing_waits core who still waiting was_shut before now lawful page there same is (NothingWaits none kept) h = none
+nothing_waits core who still waiting was_shut before now lawful page there same is (WasShut was saw kept) h =
+    absurd (there (peer_is_shut core who lawful (sym (ap (λ (x : Side). x.saw) is) ∙ ap (λ (e : SeatedEnd). e.side.saw) kept ∙ saw)))
+nothing_waits core who still waiting was_shut before now lawful page there same is (RingIsFull some full) h =
     absurd (page.has_room who (record {
       begun = standing_of before.side;
       stood = stood core who before now lawful same is;
@@ -77,16 +77,16 @@ nothing-waits core who still waiting was_shut before now lawful page there same 
       lacks = IsFull (most_asked waiting) full.cause;
       still = h;
     }))
-nothing-waits core who still waiting was_shut before now lawful page there same is (PeerIsShut some shut) h =
+nothing_waits core who still waiting was_shut before now lawful page there same is (PeerIsShut some shut) h =
     absurd (there (page.is_shut who (record {
       loads = loads_of (standing_of before.side) now.side.trail;
-      shut = closed-by (standing_of before.side) (most_asked waiting) (loads_of (standing_of before.side) now.side.trail) shut.cause;
+      shut = closed_by (standing_of before.side) (most_asked waiting) (loads_of (standing_of before.side) now.side.trail) shut.cause;
       still = h;
     })))
 
-pub no-session-stands-still : NoSessionStandsStill
-no-session-stands-still core owed c c' s s' b =
-    sessions-go-on Builtin builtin_owes owed c.caller s.serving core.server.sent core.client.sent
+pub no_session_stands_still_lem : NoSessionStandsStill
+no_session_stands_still_lem core owed c c' s s' b =
+    sessions_go_on_lem Builtin builtin_owes owed c.caller s.serving core.server.sent core.client.sent
     (record {
       calls = subst (λ sent. CallerStandsFor c.caller sent) caller_sent b.calls.stands;
       serves = subst (λ sent. ServingStandsFor builtin_owes owed s.serving sent) serving_sent b.serves.stands;
@@ -97,12 +97,12 @@ no-session-stands-still core owed c c' s s' b =
       caller_undecided = b.caller_undecided;
       serving_undecided = b.serving_undecided;
     }) (
-      nothing-waits core Server _ _ _ _ _ b.lawful page b.client_opened b.caller_turn.2.same_now b.caller_still.is_now b.caller_turn.2.sends b.caller_still.sends,
-      nothing-waits core Client _ _ _ _ _ b.lawful page b.server_opened b.serving_turn.2.same_now b.serving_still.is_now b.serving_turn.2.sends b.serving_still.sends owed b.serves,
+      nothing_waits core Server _ _ _ _ _ b.lawful page b.client_opened b.caller_turn.2.same_now b.caller_still.is_now b.caller_turn.2.sends b.caller_still.sends,
+      nothing_waits core Client _ _ _ _ _ b.lawful page b.server_opened b.serving_turn.2.same_now b.serving_still.is_now b.serving_turn.2.sends b.serving_still.sends owed b.serves,
     )
   where
     page : StandsStill core
-    page = stands-still core b.lawful (found-nothing core Server _ _ _ _ _ b.caller_turn.2 b.lawful b.caller_still) (found-nothing core Client _ _ _ _ _ b.serving_turn.2 b.lawful b.serving_still)
+    page = stands_still core b.lawful (found_nothing core Server _ _ _ _ _ b.caller_turn.2 b.lawful b.caller_still) (found_nothing core Client _ _ _ _ _ b.serving_turn.2 b.lawful b.serving_still)
 
     caller_sent : c.end.side.sent ≡ core.server.sent
     caller_sent = sym b.caller_turn.0.1 ∙ ap (λ (x : Side). x.sent) b.caller_still.is_now

@@ -25,9 +25,9 @@ one_more given p =
     flat_map-append printed given (p ∷ []) ∙ ap (λ last. all_printed given ++ last) (append-nil (line_of p.message ++ codes "\n")) ∙ sym (append_assoc (all_printed given) (line_of p.message) (codes "\n"))
 
 -- a message was printed, and its line feed
-pub lists-more : (channel : Channel) (fed : List ℕ) (old new : DecoderState) (before mid after : List ℕ) (r : Result Bool NextError) → r ≡ Ok true → Tells old new before mid r → new.channel ≡ old.channel → after ≡ mid ++ codes "\n"
+pub lists_more : (channel : Channel) (fed : List ℕ) (old new : DecoderState) (before mid after : List ℕ) (r : Result Bool NextError) → r ≡ Ok true → Tells old new before mid r → new.channel ≡ old.channel → after ≡ mid ++ codes "\n"
     → Lists channel fed old before → Lists channel fed new after
-lists-more channel fed old new before mid after r is tells same grown lists =
+lists_more channel fed old new before mid after r is tells same grown lists =
     let P : Result Bool NextError → Type 0 = λ q. Printed (Reads old new fed lists.given) before mid q in
     let told : Printed (Reads old new fed lists.given) before mid (Ok true) = subst P is (tells fed lists.given lists.stands) in
     let p : Placed Message = record { at = told.1.0; message = told.0 } in
@@ -39,9 +39,9 @@ lists-more channel fed old new before mid after r is tells same grown lists =
     }
 
 -- no message is whole
-pub lists-rest : (channel : Channel) (fed : List ℕ) (old new : DecoderState) (before after : List ℕ) (r : Result Bool NextError) → r ≡ Ok false → Tells old new before after r → new ≡ old
+pub lists_rest : (channel : Channel) (fed : List ℕ) (old new : DecoderState) (before after : List ℕ) (r : Result Bool NextError) → r ≡ Ok false → Tells old new before after r → new ≡ old
     → Lists channel fed old before → ListsAll channel fed new after None
-lists-rest channel fed old new before after r is tells same lists =
+lists_rest channel fed old new before after r is tells same lists =
     let P : Result Bool NextError → Type 0 = λ q. Printed (Reads old new fed lists.given) before after q in
     let told : Printed (Reads old new fed lists.given) before after (Ok false) = subst P is (tells fed lists.given lists.stands) in
     let is_reading : reading channel fed ≡ record { placed = lists.given; ending = Rest (length old.left) } = ap (λ ch. reading ch fed) (sym lists.on) ∙ told.0.1 in
@@ -52,9 +52,9 @@ lists-rest channel fed old new before after r is tells same lists =
     }
 
 -- a fault shows
-pub lists-fault : (channel : Channel) (fed : List ℕ) (old new : DecoderState) (before after : List ℕ) (r : Result Bool NextError) (fault : FrameFault) → r ≡ Err (error.Fault fault) → Tells old new before after r → new.channel ≡ old.channel
+pub lists_fault : (channel : Channel) (fed : List ℕ) (old new : DecoderState) (before after : List ℕ) (r : Result Bool NextError) (fault : FrameFault) → r ≡ Err (error.Fault fault) → Tells old new before after r → new.channel ≡ old.channel
     → Lists channel fed old before → ListsAll channel fed new after (Some fault)
-lists-fault channel fed old new before after r fault is tells same lists =
+lists_fault channel fed old new before after r fault is tells same lists =
     let P : Result Bool NextError → Type 0 = λ q. Printed (Reads old new fed lists.given) before after q in
     let told : Printed (Reads old new fed lists.given) before after (Err (error.Fault fault)) = subst P is (tells fed lists.given lists.stands) in
     let is_reading = ap (λ ch. reading ch fed) (sym lists.on) ∙ told.0.3 in
@@ -65,23 +65,23 @@ lists-fault channel fed old new before after r fault is tells same lists =
     }
 
 -- a decoder that was fed keeps its channel
-feed-channel : (d : DecoderState) (piece : List ℕ) (o : Option FrameFault) → d.fault ≡ o → (after_feed d piece).channel ≡ d.channel
-feed-channel d piece None is = rw is refl
-feed-channel d piece (Some f) is = rw is refl
+feed_channel : (d : DecoderState) (piece : List ℕ) (o : Option FrameFault) → d.fault ≡ o → (after_feed d piece).channel ≡ d.channel
+feed_channel d piece None is = rw is refl
+feed_channel d piece (Some f) is = rw is refl
 
 -- a piece came
-pub lists-fed : (channel : Channel) (fed piece : List ℕ) (old new : DecoderState) (text : List ℕ) → new ≡ after_feed old piece → ((f : List ℕ) (given : List (Placed Message)) → StandsFor old f given → StandsFor new (f ++ piece) given)
+pub lists_fed : (channel : Channel) (fed piece : List ℕ) (old new : DecoderState) (text : List ℕ) → new ≡ after_feed old piece → ((f : List ℕ) (given : List (Placed Message)) → StandsFor old f given → StandsFor new (f ++ piece) given)
     → Lists channel fed old text → Lists channel (fed ++ piece) new text
-lists-fed channel fed piece old new text is stands lists = record {
+lists_fed channel fed piece old new text is stands lists = record {
   given = lists.given;
-  on = ap (λ d. d.channel) is ∙ feed-channel old piece old.fault refl ∙ lists.on;
+  on = ap (λ d. d.channel) is ∙ feed_channel old piece old.fault refl ∙ lists.on;
   stands = stands fed lists.given lists.stands;
   lines = lists.lines;
 }
 
 -- what is gathered came
-pub gathers-fed : (channel : Channel) (bytes : List ℕ) (old new : DecoderState) (gathered piece text : List ℕ) → piece ≡ gathered → new ≡ after_feed old piece → ((f : List ℕ) (given : List (Placed Message)) → StandsFor old f given → StandsFor new (f ++ piece) given)
+pub gathers_fed : (channel : Channel) (bytes : List ℕ) (old new : DecoderState) (gathered piece text : List ℕ) → piece ≡ gathered → new ≡ after_feed old piece → ((f : List ℕ) (given : List (Placed Message)) → StandsFor old f given → StandsFor new (f ++ piece) given)
     → Gathers channel bytes old gathered text → Lists channel bytes new text
-gathers-fed channel bytes old new gathered piece text same is stands gathers =
+gathers_fed channel bytes old new gathered piece text same is stands gathers =
     let lists : List ℕ → Type 0 = λ all. Lists channel all new text in
-    subst lists (ap (λ behind. gathers.fed ++ behind) same ∙ gathers.whole) (lists-fed channel gathers.fed piece old new text is stands gathers.lists)
+    subst lists (ap (λ behind. gathers.fed ++ behind) same ∙ gathers.whole) (lists_fed channel gathers.fed piece old new text is stands gathers.lists)

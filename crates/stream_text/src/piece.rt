@@ -3,7 +3,7 @@ ghost use Rattle.std.specs.Prelude.{◌≡◌, ◌+◌, ◌≤◌, ◌++◌, ℕ
 ghost use Rattle.stream_text.specs.Input.{IsLineRefusal, piece_at};
 
 use crate::error::DecodeError;
-use script_words::push_bytes;
+use script_words::push_bytes_of;
 
 /// The greatest number of bytes that the lines of an input may spell in all.
 pub(crate) const MOST_BYTES: usize = 8_388_608;
@@ -28,7 +28,7 @@ pub(crate) fn push_piece(
     ensures short { IfOk result (λ count. before + count ≤ 8388608) }
 {
     let held = out.len();
-    match push_bytes(out, line, MOST_BYTES - before) {
+    match push_bytes_of(out, line, MOST_BYTES - before) {
         Ok(()) => Ok(out.len() - held),
         Err(refused) => Err(DecodeError::at(number, refused)),
     }

@@ -4,7 +4,7 @@ use Rattle.std.specs.Prelude.{true, false, Bool, not, nat_le, ◌==◌, ◌&&◌
 use Rattle.std.proofs.lemmas.Bool.Decides.{nat_tests}
 use Rattle.std.proofs.lemmas.List.{length-map}
 use Rattle.std.specs.List.{AllByRecursion as Each}
-use Rattle.list_laws.proofs.Each.{each-weaker, each-filter}
+use Rattle.list_laws.proofs.Each.{each_weaker, each_filter}
 use Rattle.qrexec_frame.specs.declared.message.Message.{Message}
 use Rattle.qrexec_frame.specs.declared.message.Message.TheVariants as m
 use Rattle.call_broker.specs.declared.decision.Entry.{Entry}
@@ -16,11 +16,11 @@ use Rattle.call_broker.specs.declared.decision.Decision.TheVariants.{Accepted, R
 use Rattle.call_broker.specs.Domains.{Domains, target_of, is_service, pages_of, port_after}
 use Rattle.call_broker.specs.Pair.{Ordered, Alone, PairState, has, is_pair, is_of, towards, belongs, decides, settles, step, state_after, decision}
 use Rattle.call_broker.specs.Journal.{IsDecidedOn, events}
-use Rattle.call_broker.proofs.PortLaws.{rest_of, state-after}
+use Rattle.call_broker.proofs.PortLaws.{rest_of, state_after_lem}
 use Rattle.task_duties.specs.Agent.Answers.{Answer, Waits, IsRefused, At}
 use Rattle.task_duties.specs.Agent.Saying.{Asking, opened, open_after, asks_for, is_at, is_refusal, KeepsTo}
 use Rattle.task_duties.specs.Broker.Outbox.{event_of, is_from}
-use Rattle.task_duties.proofs.SubLists.{Sub, length-sub, sub-if, sub-filter, sub-all, sub-kept, without-map, without-none}
+use Rattle.task_duties.proofs.SubLists.{Sub, length_sub, sub_if, sub_filter, sub_all, sub_kept, without_map, without_none}
 
 -- ---- the limit, on the events that the broker read
 
@@ -36,20 +36,20 @@ abbrev pub KeepsOn : (List ℕ → Answer) → List ℕ → List (List ℕ) → 
 KeepsOn answer target calls [] = Unit {0}
 KeepsOn answer target calls (e ∷ es) = (asks_for target (asking_event e) ≡ true → length calls < 16) × KeepsOn answer target (open_event answer target e calls) es
 
-pub keeps-on : (f : ℕ) (answer : List ℕ → Answer) (target : List ℕ) (said : List Message) (calls : List (List ℕ)) → KeepsTo answer target calls said → KeepsOn answer target calls (filter_map (event_of f) said)
-keeps-on f answer target [] calls k = tt
-keeps-on f answer target (m.Trigger3 t i s ∷ said) calls k = (k.0, keeps-on f answer target said (open_after answer target (m.Trigger3 t i s) calls) k.1)
-keeps-on f answer target (m.Trigger t i s ∷ said) calls k = (k.0, keeps-on f answer target said (open_after answer target (m.Trigger t i s) calls) k.1)
-keeps-on f answer target (m.Terminated d p ∷ said) calls k = (λ no. cc, keeps-on f answer target said (open_after answer target (m.Terminated d p) calls) k.1)
-keeps-on f answer target (m.Hello v ∷ said) calls k = keeps-on f answer target said calls k.1
-keeps-on f answer target (m.Stdin b ∷ said) calls k = keeps-on f answer target said calls k.1
-keeps-on f answer target (m.Stdout b ∷ said) calls k = keeps-on f answer target said calls k.1
-keeps-on f answer target (m.Stderr b ∷ said) calls k = keeps-on f answer target said calls k.1
-keeps-on f answer target (m.ExitCode c ∷ said) calls k = keeps-on f answer target said calls k.1
-keeps-on f answer target (m.Exec d p l ∷ said) calls k = keeps-on f answer target said calls k.1
-keeps-on f answer target (m.JustExec d p l ∷ said) calls k = keeps-on f answer target said calls k.1
-keeps-on f answer target (m.Connect d p i ∷ said) calls k = keeps-on f answer target said calls k.1
-keeps-on f answer target (m.Refused i ∷ said) calls k = keeps-on f answer target said calls k.1
+pub keeps_on : (f : ℕ) (answer : List ℕ → Answer) (target : List ℕ) (said : List Message) (calls : List (List ℕ)) → KeepsTo answer target calls said → KeepsOn answer target calls (filter_map (event_of f) said)
+keeps_on f answer target [] calls k = tt
+keeps_on f answer target (m.Trigger3 t i s ∷ said) calls k = (k.0, keeps_on f answer target said (open_after answer target (m.Trigger3 t i s) calls) k.1)
+keeps_on f answer target (m.Trigger t i s ∷ said) calls k = (k.0, keeps_on f answer target said (open_after answer target (m.Trigger t i s) calls) k.1)
+keeps_on f answer target (m.Terminated d p ∷ said) calls k = (λ no. cc, keeps_on f answer target said (open_after answer target (m.Terminated d p) calls) k.1)
+keeps_on f answer target (m.Hello v ∷ said) calls k = keeps_on f answer target said calls k.1
+keeps_on f answer target (m.Stdin b ∷ said) calls k = keeps_on f answer target said calls k.1
+keeps_on f answer target (m.Stdout b ∷ said) calls k = keeps_on f answer target said calls k.1
+keeps_on f answer target (m.Stderr b ∷ said) calls k = keeps_on f answer target said calls k.1
+keeps_on f answer target (m.ExitCode c ∷ said) calls k = keeps_on f answer target said calls k.1
+keeps_on f answer target (m.Exec d p l ∷ said) calls k = keeps_on f answer target said calls k.1
+keeps_on f answer target (m.JustExec d p l ∷ said) calls k = keeps_on f answer target said calls k.1
+keeps_on f answer target (m.Connect d p i ∷ said) calls k = keeps_on f answer target said calls k.1
+keeps_on f answer target (m.Refused i ∷ said) calls k = keeps_on f answer target said calls k.1
 
 -- ---- what ties the answers that the agent heard to the journal
 
@@ -95,21 +95,21 @@ stays hub f t target answer port s acc calls more rest h sub keeps =
     record { acc = acc; calls = more; holds = record { live = h.live; sub = sub; fits = h.fits; up = h.up }; keeps = keeps }
 
 -- an opened call is one more, or none
-sub-opened : (answer : List ℕ → Answer) (target : List ℕ) (o : Option Asking) (acc calls : List (List ℕ)) → Sub acc calls → Sub acc (opened answer target o calls)
-sub-opened answer target None acc calls h = h
-sub-opened answer target (Some a) acc calls h = sub-if (bytes_eq a.target target && not (is_refusal (answer a.ident))) a.ident acc calls h
+sub_opened : (answer : List ℕ → Answer) (target : List ℕ) (o : Option Asking) (acc calls : List (List ℕ)) → Sub acc calls → Sub acc (opened answer target o calls)
+sub_opened answer target None acc calls h = h
+sub_opened answer target (Some a) acc calls h = sub_if (bytes_eq a.target target && not (is_refusal (answer a.ident))) a.ident acc calls h
 
 -- a call that was accepted with another port isn't ended
-other-port : (t domain q port : ℕ) (a : Answer) → FitsAt t port a → not (port == q) ≡ true → not (is_at domain q a) ≡ true
-other-port t domain q port Waits h e = refl
-other-port t domain q port IsRefused h e = absurd h
-other-port t domain q port (At to p) h e = let same = h.1 in grind (arith, nat_tests)
+other_port : (t domain q port : ℕ) (a : Answer) → FitsAt t port a → not (port == q) ≡ true → not (is_at domain q a) ≡ true
+other_port t domain q port Waits h e = refl
+other_port t domain q port IsRefused h e = absurd h
+other_port t domain q port (At to p) h e = let same = h.1 in grind (arith, nat_tests)
 
 -- a Terminated of another pair ends no call of this one
-other-pair : (hub : Domains) (f t domain q port : ℕ) (a : Answer) → FitsAt t port a → IsOwn hub f t port → belongs hub (Ordered f t) (Terminated f domain q) ≡ false → not (is_at domain q a) ≡ true
-other-pair hub f t domain q port Waits fits own none = refl
-other-pair hub f t domain q port IsRefused fits own none = absurd fits
-other-pair hub f t domain q port (At to p) fits own none = by_test (domain == to && q == p) refl
+other_pair : (hub : Domains) (f t domain q port : ℕ) (a : Answer) → FitsAt t port a → IsOwn hub f t port → belongs hub (Ordered f t) (Terminated f domain q) ≡ false → not (is_at domain q a) ≡ true
+other_pair hub f t domain q port Waits fits own none = refl
+other_pair hub f t domain q port IsRefused fits own none = absurd fits
+other_pair hub f t domain q port (At to p) fits own none = by_test (domain == to && q == p) refl
   where
     by_test : (b : Bool) → (domain == to && q == p) ≡ b → not b ≡ true
     by_test false is = refl
@@ -121,69 +121,69 @@ other-pair hub f t domain q port (At to p) fits own none = by_test (domain == to
         cc
 
 -- the pair after a Terminated that took a port out, or found none
-own-end : (hub : Domains) (f t : ℕ) (target : List ℕ) (answer : List ℕ → Answer) (port : List ℕ → ℕ) (s : PairState) (acc calls : List (List ℕ)) (other q : ℕ) (rest : List Event)
+own_end : (hub : Domains) (f t : ℕ) (target : List ℕ) (answer : List ℕ → Answer) (port : List ℕ → ℕ) (s : PairState) (acc calls : List (List ℕ)) (other q : ℕ) (rest : List Event)
     → Holds hub f t answer port s acc calls → KeepsOn answer target (filter (λ ident. not (is_at other q (answer ident))) calls) rest → (b : Bool) → has q s.live ≡ b
     → Goes hub f t target answer port (settles s (Terminated f other q) (if b then Ended f t q else PassedOver)) rest
-own-end hub f t target answer port s acc calls other q rest h keeps b is = by_test b is
+own_end hub f t target answer port s acc calls other q rest h keeps b is = by_test b is
   where
     left : List (List ℕ)
     left = filter (λ x. not (port x == q)) acc
 
     sub : Sub left (filter (λ ident. not (is_at other q (answer ident))) calls)
-    sub = sub-filter (λ x. not (port x == q)) (λ ident. not (is_at other q (answer ident))) acc calls h.sub
-        (each-weaker (λ i. FitsAt t (port i) (answer i) × IsOwn hub f t (port i)) _ (λ i fits e. other-port t other q (port i) (answer i) fits.0 e) acc h.fits)
+    sub = sub_filter (λ x. not (port x == q)) (λ ident. not (is_at other q (answer ident))) acc calls h.sub
+        (each_weaker (λ i. FitsAt t (port i) (answer i) × IsOwn hub f t (port i)) _ (λ i fits e. other_port t other q (port i) (answer i) fits.0 e) acc h.fits)
 
     taken : filter (λ p. not (p == q)) s.live ≡ map port left
-    taken = rw h.live (without-map port q acc)
+    taken = rw h.live (without_map port q acc)
 
     by_test : (b' : Bool) → has q s.live ≡ b' → Goes hub f t target answer port (settles s (Terminated f other q) (if b' then Ended f t q else PassedOver)) rest
-    by_test true e = record { acc = left; calls = _; holds = record { live = taken; sub = sub; fits = each-filter _ (λ x. not (port x == q)) acc h.fits; up = h.up }; keeps = keeps }
-    by_test false e = record { acc = left; calls = _; holds = record { live = sym (without-none q s.live e) ∙ taken; sub = sub; fits = each-filter _ (λ x. not (port x == q)) acc h.fits; up = h.up }; keeps = keeps }
+    by_test true e = record { acc = left; calls = _; holds = record { live = taken; sub = sub; fits = each_filter _ (λ x. not (port x == q)) acc h.fits; up = h.up }; keeps = keeps }
+    by_test false e = record { acc = left; calls = _; holds = record { live = sym (without_none q s.live e) ∙ taken; sub = sub; fits = each_filter _ (λ x. not (port x == q)) acc h.fits; up = h.up }; keeps = keeps }
 
 -- a Terminated of the other domain
-other-end : (hub : Domains) (f t : ℕ) (target : List ℕ) (answer : List ℕ → Answer) (port : List ℕ → ℕ) (s : PairState) (acc calls : List (List ℕ)) (from other q : ℕ) (rest : List Event)
+other_end : (hub : Domains) (f t : ℕ) (target : List ℕ) (answer : List ℕ → Answer) (port : List ℕ → ℕ) (s : PairState) (acc calls : List (List ℕ)) (from other q : ℕ) (rest : List Event)
     → Holds hub f t answer port s acc calls → KeepsOn answer target calls rest → (a b : Bool)
     → Goes hub f t target answer port (settles s (Terminated from other q) (if a then PassedOver else if b then Ended f t q else PassedOver)) rest
-other-end hub f t target answer port s acc calls from other q rest h keeps true b = stays hub f t target answer port s acc calls calls rest h h.sub keeps
-other-end hub f t target answer port s acc calls from other q rest h keeps false false = stays hub f t target answer port s acc calls calls rest h h.sub keeps
-other-end hub f t target answer port s acc calls from other q rest h keeps false true = record {
+other_end hub f t target answer port s acc calls from other q rest h keeps true b = stays hub f t target answer port s acc calls calls rest h h.sub keeps
+other_end hub f t target answer port s acc calls from other q rest h keeps false false = stays hub f t target answer port s acc calls calls rest h h.sub keeps
+other_end hub f t target answer port s acc calls from other q rest h keeps false true = record {
   acc = filter (λ x. not (port x == q)) acc;
   calls = calls;
-  holds = record { live = rw h.live (without-map port q acc); sub = sub-all (λ x. not (port x == q)) acc calls h.sub; fits = each-filter _ (λ x. not (port x == q)) acc h.fits; up = h.up };
+  holds = record { live = rw h.live (without_map port q acc); sub = sub_all (λ x. not (port x == q)) acc calls h.sub; fits = each_filter _ (λ x. not (port x == q)) acc h.fits; up = h.up };
   keeps = keeps;
 }
 
-on-terminated : (hub : Domains) (f t : ℕ) (target : List ℕ) (answer : List ℕ → Answer) (port : List ℕ → ℕ) (s : PairState) (acc calls : List (List ℕ)) (from other q : ℕ) (rest : List Event)
+on_terminated : (hub : Domains) (f t : ℕ) (target : List ℕ) (answer : List ℕ → Answer) (port : List ℕ → ℕ) (s : PairState) (acc calls : List (List ℕ)) (from other q : ℕ) (rest : List Event)
     → Holds hub f t answer port s acc calls → (a : Bool) → (from == f) ≡ a → KeepsOn answer target calls (if a then Terminated from other q ∷ rest else rest)
     → (b : Bool) → belongs hub (Ordered f t) (Terminated from other q) ≡ b
     → Goes hub f t target answer port (if b then settles s (Terminated from other q) (decides hub (Ordered f t) s (Terminated from other q)) else s) rest
-on-terminated hub f t target answer port s acc calls from other q rest h false apart keeps false none = stays hub f t target answer port s acc calls calls rest h h.sub keeps
-on-terminated hub f t target answer port s acc calls from other q rest h false apart keeps true own =
-    other-end hub f t target answer port s acc calls from other q rest h keeps (has from s.dropped) (has q s.live)
-on-terminated hub f t target answer port s acc calls from other q rest h true same keeps true own =
+on_terminated hub f t target answer port s acc calls from other q rest h false apart keeps false none = stays hub f t target answer port s acc calls calls rest h h.sub keeps
+on_terminated hub f t target answer port s acc calls from other q rest h false apart keeps true own =
+    other_end hub f t target answer port s acc calls from other q rest h keeps (has from s.dropped) (has q s.live)
+on_terminated hub f t target answer port s acc calls from other q rest h true same keeps true own =
     let is : from ≡ f = grind (arith, nat_tests, same) in
-    rw (is, h.up) (own-end hub f t target answer port s acc calls other q rest h keeps.1 (has q s.live) refl)
-on-terminated hub f t target answer port s acc calls from other q rest h true same keeps false none =
+    rw (is, h.up) (own_end hub f t target answer port s acc calls other q rest h keeps.1 (has q s.live) refl)
+on_terminated hub f t target answer port s acc calls from other q rest h true same keeps false none =
     let is : from ≡ f = grind (arith, nat_tests, same) in
     let none' : belongs hub (Ordered f t) (Terminated f other q) ≡ false = rw is at none in
-    let kept = sub-kept (λ ident. not (is_at other q (answer ident))) acc calls h.sub
-    (each-weaker (λ i. FitsAt t (port i) (answer i) × IsOwn hub f t (port i)) _ (λ i fits. other-pair hub f t other q (port i) (answer i) fits.0 fits.1 none') acc h.fits) in
+    let kept = sub_kept (λ ident. not (is_at other q (answer ident))) acc calls h.sub
+    (each_weaker (λ i. FitsAt t (port i) (answer i) × IsOwn hub f t (port i)) _ (λ i fits. other_pair hub f t other q (port i) (answer i) fits.0 fits.1 none') acc h.fits) in
     stays hub f t target answer port s acc calls _ rest h kept keeps.1
 
-on-dropped : (hub : Domains) (f t : ℕ) (target : List ℕ) (answer : List ℕ → Answer) (port : List ℕ → ℕ) (s : PairState) (acc calls : List (List ℕ)) (domain : ℕ) (rest : List Event)
+on_dropped : (hub : Domains) (f t : ℕ) (target : List ℕ) (answer : List ℕ → Answer) (port : List ℕ → ℕ) (s : PairState) (acc calls : List (List ℕ)) (domain : ℕ) (rest : List Event)
     → Holds hub f t answer port s acc calls → domain ≢ f → KeepsOn answer target calls rest → (b : Bool)
     → Goes hub f t target answer port (if b then settles s (Dropped domain) PassedOver else s) rest
-on-dropped hub f t target answer port s acc calls domain rest h apart keeps false = stays hub f t target answer port s acc calls calls rest h h.sub keeps
-on-dropped hub f t target answer port s acc calls domain rest h apart keeps true =
+on_dropped hub f t target answer port s acc calls domain rest h apart keeps false = stays hub f t target answer port s acc calls calls rest h h.sub keeps
+on_dropped hub f t target answer port s acc calls domain rest h apart keeps true =
     let no : (domain == f) ≡ false = grind (arith, nat_tests) in
     record { acc = []; calls = calls; holds = record { live = refl; sub = tt; fits = tt; up = rw (no, h.up) refl }; keeps = keeps }
 
 -- ---- a trigger
 
-fits-open : (t q : ℕ) (a : Answer) → FitsAt t q a → is_refusal a ≡ false
-fits-open t q Waits h = refl
-fits-open t q IsRefused h = absurd h
-fits-open t q (At to p) h = refl
+fits_open : (t q : ℕ) (a : Answer) → FitsAt t q a → is_refusal a ≡ false
+fits_open t q Waits h = refl
+fits_open t q IsRefused h = absurd h
+fits_open t q (At to p) h = refl
 
 abbrev Tie : Domains → ℕ → ℕ → (List ℕ → Answer) → (List ℕ → ℕ) → List ℕ → Decision → Type 0
 Tie hub f t answer port ident d = (q : ℕ) → d ≡ Accepted t q → (port ident ≡ q) × FitsAt t q (answer ident) × IsOwn hub f t q
@@ -194,20 +194,20 @@ asked text service ident = record { target = text; service = service; ident = id
 abbrev Went : Domains → ℕ → ℕ → List ℕ → (List ℕ → Answer) → (List ℕ → ℕ) → PairState → Event → Decision → List Event → Type 0
 Went hub f t target answer port s e d rest = ((n : ℕ) → d ≢ Refused (PairFull n)) × Goes hub f t target answer port (settles s e d) rest
 
-own-trigger : (hub : Domains) (f t : ℕ) (target : List ℕ) (answer : List ℕ → Answer) (port : List ℕ → ℕ) (s : PairState) (acc calls : List (List ℕ)) (text service ident : List ℕ) (rest : List Event)
+own_trigger : (hub : Domains) (f t : ℕ) (target : List ℕ) (answer : List ℕ → Answer) (port : List ℕ → ℕ) (s : PairState) (acc calls : List (List ℕ)) (text service ident : List ℕ) (rest : List Event)
     → Holds hub f t answer port s acc calls → bytes_eq text target ≡ true → length s.live < 16 → KeepsOn answer target (opened answer target (Some (asked text service ident)) calls) rest
     → Tie hub f t answer port ident (rest_of hub s f t service) → Went hub f t target answer port s (Trigger f text service ident) (rest_of hub s f t service) rest
-own-trigger hub f t target answer port s acc calls text service ident rest h same few keeps = by_tests (is_service service) (has t s.dropped) (nat_le 16 (length s.live)) (nat_le (pages_of hub f t) s.calls) full
+own_trigger hub f t target answer port s acc calls text service ident rest h same few keeps = by_tests (is_service service) (has t s.dropped) (nat_le 16 (length s.live)) (nat_le (pages_of hub f t) s.calls) full
   where
     full : nat_le 16 (length s.live) ≡ true → ⊥
     full is = grind (arith, nat_tests, is, few)
 
     kept : Goes hub f t target answer port s rest
-    kept = stays hub f t target answer port s acc calls _ rest h (sub-opened answer target (Some (asked text service ident)) acc calls h.sub) keeps
+    kept = stays hub f t target answer port s acc calls _ rest h (sub_opened answer target (Some (asked text service ident)) acc calls h.sub) keeps
 
     taken : (q : ℕ) → (port ident ≡ q) × FitsAt t q (answer ident) × IsOwn hub f t q → Goes hub f t target answer port (record s { live = q ∷ s.live; calls = s.calls + 1 }) rest
     taken q tie =
-        let open_now = fits-open t q (answer ident) tie.1 in
+        let open_now = fits_open t q (answer ident) tie.1 in
         let kept' : KeepsOn answer target (ident ∷ calls) rest = rw (same, open_now) at keeps in
         let there = tie.0 in let live = h.live in
         record {
@@ -226,9 +226,9 @@ own-trigger hub f t target answer port s acc calls text service ident rest h sam
     by_tests true false false true never tie = (λ n e. cc, kept)
     by_tests true false false false never tie = (λ n e. cc, taken (port_after f t s.calls) (tie (port_after f t s.calls) refl))
 
-other-sender : (f t from : ℕ) (o : Option ℕ) → (from == f) ≡ false → is_pair (towards from o) (Ordered f t) ≡ false
-other-sender f t from None apart = refl
-other-sender f t from (Some to) apart = by_self (to == from)
+other_sender : (f t from : ℕ) (o : Option ℕ) → (from == f) ≡ false → is_pair (towards from o) (Ordered f t) ≡ false
+other_sender f t from None apart = refl
+other_sender f t from (Some to) apart = by_self (to == from)
   where
     by_self : (b : Bool) → is_pair (if b then Alone from else Ordered from to) (Ordered f t) ≡ false
     by_self true = refl
@@ -238,12 +238,12 @@ pub record IsEntryFine (hub : Domains) (f t : ℕ) (target : List ℕ) (answer :
   pub not_full : NotFull hub f t e d
   pub goes : Goes hub f t target answer port (step hub (Ordered f t) (state_after hub before (Ordered f t)) e) rest
 
-on-trigger : (hub : Domains) (f t : ℕ) → f ≢ t → (target : List ℕ) (answer : List ℕ → Answer) (port : List ℕ → ℕ) (before : List Event) (acc calls : List (List ℕ)) (text service ident : List ℕ) (rest : List Event)
+on_trigger : (hub : Domains) (f t : ℕ) → f ≢ t → (target : List ℕ) (answer : List ℕ → Answer) (port : List ℕ → ℕ) (before : List Event) (acc calls : List (List ℕ)) (text service ident : List ℕ) (rest : List Event)
     → Holds hub f t answer port (state_after hub before (Ordered f t)) acc calls
     → (target_of hub text ≡ Some t → bytes_eq text target ≡ true) → Tie hub f t answer port ident (decision hub before (Trigger f text service ident))
     → (bytes_eq text target ≡ true → length calls < 16) → KeepsOn answer target (opened answer target (Some (asked text service ident)) calls) rest
     → IsEntryFine hub f t target answer port before (Trigger f text service ident) (decision hub before (Trigger f text service ident)) rest
-on-trigger hub f t apart target answer port before acc calls text service ident rest h named tie few keeps = by_target (target_of hub text) refl
+on_trigger hub f t apart target answer port before acc calls text service ident rest h named tie few keeps = by_target (target_of hub text) refl
   where
     s : PairState
     s = state_after hub before (Ordered f t)
@@ -255,7 +255,7 @@ on-trigger hub f t apart target answer port before acc calls text service ident 
     Fine = IsEntryFine hub f t target answer port before e (decision hub before e) rest
 
     kept : Goes hub f t target answer port s rest
-    kept = stays hub f t target answer port s acc calls _ rest h (sub-opened answer target (Some (asked text service ident)) acc calls h.sub) keeps
+    kept = stays hub f t target answer port s acc calls _ rest h (sub_opened answer target (Some (asked text service ident)) acc calls h.sub) keeps
 
     alone : (target_of hub text ≡ Some t → ⊥) → is_pair (towards f (target_of hub text)) (Ordered f t) ≡ false → Fine
     alone never none =
@@ -271,10 +271,10 @@ on-trigger hub f t apart target answer port before acc calls text service ident 
         let stepped : step hub (Ordered f t) s e ≡ settles s e (rest_of hub s f t service) = rw (is, self, h.up, ff, tt') refl in
         let same = named is in
         let long : length s.live ≡ length acc = ap length h.live ∙ length-map acc port in
-        let fewer = length-sub acc calls h.sub in
+        let fewer = length_sub acc calls h.sub in
         let less = few same in
         let tie' : Tie hub f t answer port ident (rest_of hub s f t service) = λ q at. tie q (decided ∙ at) in
-        let went = own-trigger hub f t target answer port s acc calls text service ident rest h same (omega (arith, long, fewer, less)) keeps tie' in
+        let went = own_trigger hub f t target answer port s acc calls text service ident rest h same (omega (arith, long, fewer, less)) keeps tie' in
         record { not_full = λ is_f named' n bad. went.0 n (sym decided ∙ bad); goes = rw stepped went.1 }
 
     by_pair : (to : ℕ) → target_of hub text ≡ Some to → (to == f) ≡ false → (b : Bool) → (to == t) ≡ b → Fine
@@ -293,15 +293,15 @@ on-trigger hub f t apart target answer port before acc calls text service ident 
     by_target (Some to) is = by_self to is (to == f) refl
 
 -- an event of the journal
-on-event : (hub : Domains) (f t : ℕ) → f ≢ t → (target : List ℕ) (answer : List ℕ → Answer) (port : List ℕ → ℕ) (before : List Event) (acc calls : List (List ℕ)) (e : Event) (rest : List Event)
+on_event : (hub : Domains) (f t : ℕ) → f ≢ t → (target : List ℕ) (answer : List ℕ → Answer) (port : List ℕ → ℕ) (before : List Event) (acc calls : List (List ℕ)) (e : Event) (rest : List Event)
     → Holds hub f t answer port (state_after hub before (Ordered f t)) acc calls → IsTied hub f t target answer port e (decision hub before e)
     → KeepsOn answer target calls (if is_from f e then e ∷ rest else rest)
     → IsEntryFine hub f t target answer port before e (decision hub before e) rest
-on-event hub f t apart target answer port before acc calls (Dropped domain) rest h tied keeps =
-    record { not_full = tt; goes = on-dropped hub f t target answer port (state_after hub before (Ordered f t)) acc calls domain rest h tied keeps (is_of domain (Ordered f t)) }
-on-event hub f t apart target answer port before acc calls (Terminated from other q) rest h tied keeps =
-    record { not_full = tt; goes = on-terminated hub f t target answer port (state_after hub before (Ordered f t)) acc calls from other q rest h (from == f) refl keeps (belongs hub (Ordered f t) (Terminated from other q)) refl }
-on-event hub f t apart target answer port before acc calls (Trigger from text service ident) rest h tied keeps = by_sender (from == f) refl keeps
+on_event hub f t apart target answer port before acc calls (Dropped domain) rest h tied keeps =
+    record { not_full = tt; goes = on_dropped hub f t target answer port (state_after hub before (Ordered f t)) acc calls domain rest h tied keeps (is_of domain (Ordered f t)) }
+on_event hub f t apart target answer port before acc calls (Terminated from other q) rest h tied keeps =
+    record { not_full = tt; goes = on_terminated hub f t target answer port (state_after hub before (Ordered f t)) acc calls from other q rest h (from == f) refl keeps (belongs hub (Ordered f t) (Terminated from other q)) refl }
+on_event hub f t apart target answer port before acc calls (Trigger from text service ident) rest h tied keeps = by_sender (from == f) refl keeps
   where
     s : PairState
     s = state_after hub before (Ordered f t)
@@ -309,7 +309,7 @@ on-event hub f t apart target answer port before acc calls (Trigger from text se
     by_sender : (b : Bool) → (from == f) ≡ b → KeepsOn answer target calls (if b then Trigger from text service ident ∷ rest else rest)
         → IsEntryFine hub f t target answer port before (Trigger from text service ident) (decision hub before (Trigger from text service ident)) rest
     by_sender false other keeps' =
-        let none = other-sender f t from (target_of hub text) other in
+        let none = other_sender f t from (target_of hub text) other in
         let same : step hub (Ordered f t) s (Trigger from text service ident) ≡ s = ap (λ b. if b then settles s (Trigger from text service ident) (decides hub (Ordered f t) s (Trigger from text service ident)) else s) none in
         record {
           not_full = λ is. let no : (from == f) ≡ true = grind (arith, nat_tests) in cc;
@@ -319,17 +319,17 @@ on-event hub f t apart target answer port before acc calls (Trigger from text se
         let is : from ≡ f = grind (arith, nat_tests, same) in
         let tie = tied is in
         let P : ℕ → Type 0 = λ x. Tie hub f t answer port ident (decision hub before (Trigger x text service ident)) → IsEntryFine hub f t target answer port before (Trigger x text service ident) (decision hub before (Trigger x text service ident)) rest in
-        subst P (sym is) (λ tie'. on-trigger hub f t apart target answer port before acc calls text service ident rest h tie.0 tie' keeps'.0 keeps'.1) tie.1
+        subst P (sym is) (λ tie'. on_trigger hub f t apart target answer port before acc calls text service ident rest h tie.0 tie' keeps'.0 keeps'.1) tie.1
 
 -- Of each entry of a journal: while the agent keeps to sixteen open calls, and the answers that it heard are tied to the journal, none of its
 -- triggers to the other domain is refused as PairFull.
-pub limits-kept : (hub : Domains) (f t : ℕ) → f ≢ t → (target : List ℕ) (answer : List ℕ → Answer) (port : List ℕ → ℕ) (journal : List Entry) (before : List Event) (acc calls : List (List ℕ))
+pub limits_kept : (hub : Domains) (f t : ℕ) → f ≢ t → (target : List ℕ) (answer : List ℕ → Answer) (port : List ℕ → ℕ) (journal : List Entry) (before : List Event) (acc calls : List (List ℕ))
     → Holds hub f t answer port (state_after hub before (Ordered f t)) acc calls → IsDecidedOn hub before journal → Each (λ x. IsTied hub f t target answer port x.event x.decision) journal
     → KeepsOn answer target calls (filter (is_from f) (events journal)) → Each (λ x. NotFull hub f t x.event x.decision) journal
-limits-kept hub f t apart target answer port [] before acc calls h decided tied keeps = tt
-limits-kept hub f t apart target answer port (x ∷ journal) before acc calls h decided tied keeps =
+limits_kept hub f t apart target answer port [] before acc calls h decided tied keeps = tt
+limits_kept hub f t apart target answer port (x ∷ journal) before acc calls h decided tied keeps =
     let tied_now : IsTied hub f t target answer port x.event (decision hub before x.event) = rw (← decided.0) tied.0 in
-    let now = on-event hub f t apart target answer port before acc calls x.event (filter (is_from f) (events journal)) h tied_now keeps in
-    let after = state-after hub (Ordered f t) before x.event in
+    let now = on_event hub f t apart target answer port before acc calls x.event (filter (is_from f) (events journal)) h tied_now keeps in
+    let after = state_after_lem hub (Ordered f t) before x.event in
     let holds : Holds hub f t answer port (state_after hub (before ++ x.event ∷ []) (Ordered f t)) now.goes.acc now.goes.calls = rw after now.goes.holds in
-    (rw decided.0 now.not_full, limits-kept hub f t apart target answer port journal (before ++ x.event ∷ []) now.goes.acc now.goes.calls holds decided.1 tied.1 now.goes.keeps)
+    (rw decided.0 now.not_full, limits_kept hub f t apart target answer port journal (before ++ x.event ∷ []) now.goes.acc now.goes.calls holds decided.1 tied.1 now.goes.keeps)

@@ -9,11 +9,11 @@ use Rattle.task_duties.specs.Agent.Saying.{KeepsTo}
 use Rattle.task_duties.specs.Worked.{RowsAreAsWorked, trigger, triggers, always}
 
 -- the last of seventeen comes upon sixteen
-no-seventeenth : KeepsTo (always Waits) (codes "b") [] (triggers 17) → ⊥
-no-seventeenth keeps = let last = keeps.1.1.1.1.1.1.1.1.1.1.1.1.1.1.1.1.0 refl in absurd (omega (arith, last))
+no_seventeenth : KeepsTo (always Waits) (codes "b") [] (triggers 17) → ⊥
+no_seventeenth keeps = let last = keeps.1.1.1.1.1.1.1.1.1.1.1.1.1.1.1.1.0 refl in absurd (omega (arith, last))
 
-none-ended : KeepsTo (always (At 2 513)) (codes "b") [] (triggers 16 ++ Terminated 2 515 ∷ trigger ∷ []) → ⊥
-none-ended keeps = let last = keeps.1.1.1.1.1.1.1.1.1.1.1.1.1.1.1.1.1.0 refl in absurd (omega (arith, last))
+none_ended : KeepsTo (always (At 2 513)) (codes "b") [] (triggers 16 ++ Terminated 2 515 ∷ trigger ∷ []) → ⊥
+none_ended keeps = let last = keeps.1.1.1.1.1.1.1.1.1.1.1.1.1.1.1.1.1.0 refl in absurd (omega (arith, last))
 
 pub rows_are_as_worked : RowsAreAsWorked
 unfolding service front
@@ -27,10 +27,10 @@ rows_are_as_worked = record {
   not_heard = refl;
   no_greeting = refl;
   sixteen = ((λ _. omega arith), ((λ _. omega arith), ((λ _. omega arith), ((λ _. omega arith), ((λ _. omega arith), ((λ _. omega arith), ((λ _. omega arith), ((λ _. omega arith), ((λ _. omega arith), ((λ _. omega arith), ((λ _. omega arith), ((λ _. omega arith), ((λ _. omega arith), ((λ _. omega arith), ((λ _. omega arith), ((λ _. omega arith), tt))))))))))))))));
-  seventeen = no-seventeenth;
+  seventeen = no_seventeenth;
   none_refused = ((λ _. omega arith), ((λ _. omega arith), ((λ _. omega arith), ((λ _. omega arith), ((λ _. omega arith), ((λ _. omega arith), ((λ _. omega arith), ((λ _. omega arith), ((λ _. omega arith), ((λ _. omega arith), ((λ _. omega arith), ((λ _. omega arith), ((λ _. omega arith), ((λ _. omega arith), ((λ _. omega arith), ((λ _. omega arith), ((λ _. omega arith), tt)))))))))))))))));
   one_ended = ((λ _. omega arith), ((λ _. omega arith), ((λ _. omega arith), ((λ _. omega arith), ((λ _. omega arith), ((λ _. omega arith), ((λ _. omega arith), ((λ _. omega arith), ((λ _. omega arith), ((λ _. omega arith), ((λ _. omega arith), ((λ _. omega arith), ((λ _. omega arith), ((λ _. omega arith), ((λ _. omega arith), ((λ _. omega arith), ((λ none. cc), ((λ _. omega arith), tt))))))))))))))))));
-  other_ended = none-ended;
+  other_ended = none_ended;
   served_once = refl;
   not_started = refl;
   no_call = refl;

@@ -3,7 +3,7 @@ use Rattle.std.proofs.Common.{◌≡◌, ◌≢◌, ◌⊎◌, ℕ, zero, suc, �
 use Rattle.std.specs.List.{AllByRecursion, AllZip}
 use Rattle.std.proofs.lemmas.Bool.Decides.{nat_tests, eqb_tells}
 use Rattle.std.proofs.lemmas.Option.{slice_get_within}
-use Rattle.list_laws.proofs.Pairs.{pairs-append}
+use Rattle.list_laws.proofs.Pairs.{pairs_append}
 use Rattle.task_pool.specs.Rule.{below, kept_weight}
 use Rattle.task_pool.specs.Results.{Settled, IsWhole}
 
@@ -86,7 +86,7 @@ module _ {T D : Type 0} (owes : T → D → Type 0) where
             before = s.before ++ t ∷ [];
             after = after;
             split = split ∙ sym (append_assoc s.before (t ∷ []) after);
-            paid = pairs-append owes s.before (t ∷ []) dones (done ∷ []) s.paid (subst (owes t) same owing.0.2, tt);
+            paid = pairs_append owes s.before (t ∷ []) dones (done ∷ []) s.paid (subst (owes t) same owing.0.2, tt);
             owing = owing.1;
           }
 

@@ -2,7 +2,7 @@
 use Rattle.std.proofs.Common.{◌≡◌, ◌<◌, List, [], ◌∷◌, ◌++◌, length, sym, ap, ◌∙◌, subst, arith}
 use Rattle.std.specs.List.{AllZip}
 use Rattle.std.proofs.lemmas.Slice.Zip.{AllZip-long}
-use Rattle.list_laws.proofs.Pairs.{pairs-append}
+use Rattle.list_laws.proofs.Pairs.{pairs_append}
 use Rattle.task_pool.specs.declared.hand.Hand.{Hand}
 use Rattle.task_pool.specs.declared.waiting.Finished.{Finished}
 use Rattle.task_pool.specs.Results.{IsPaid, Ends, Keeps}
@@ -13,7 +13,7 @@ module _ {T D : Type 0} (owes : T → D → Type 0) where
     part = ap (λ (y : Hand T). y.parts) ends.keeps ∙ keeps.part;
     knows = ap (λ (y : Hand T). y.laid) ends.keeps ∙ keeps.knows;
     paid = subst (λ l. AllZip (IsPaid owes laid) l (finished ++ f ∷ [])) (sym (ap (λ (y : Hand T). y.kept) ends.keeps))
-        (pairs-append (IsPaid owes laid) v.kept ((f.place, ends.first) ∷ []) finished (f ∷ []) keeps.paid (subst (λ l. IsPaid owes l (f.place, ends.first) f) keeps.knows ends.paid, tt));
+        (pairs_append (IsPaid owes laid) v.kept ((f.place, ends.first) ∷ []) finished (f ∷ []) keeps.paid (subst (λ l. IsPaid owes l (f.place, ends.first) f) keeps.knows ends.paid, tt));
   }
 
   pub keeps_room : (laid : List T) (finished : List (Finished D)) (f : Finished D) (v w : Hand T) → Keeps owes laid finished v → Ends owes v f w → length finished < length laid

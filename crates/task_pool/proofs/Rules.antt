@@ -2,9 +2,9 @@
 use Rattle.std.proofs.Common.{◌≡◌, ◌≢◌, ℕ, zero, suc, ◌+◌, ◌-◌, ◌<◌, List, [], ◌∷◌, ◌++◌, length, set, take, slice_get, Some, refl, sym, ap, ◌∙◌, subst, ⊎_elim, arith, length-append, add-one}
 use Rattle.std.proofs.Math.Seq.{take-append_seam}
 use Rattle.std.specs.List.{AllByRecursion}
-use Rattle.list_laws.proofs.Each.{each-append, each-front, each-back, each-weaker}
-use Rattle.list_laws.proofs.Places.{get-front}
-use mathlib.Core.Option.{some, some-injective, some-ne-none}
+use Rattle.list_laws.proofs.Each.{each_append, each_front, each_back, each_weaker}
+use Rattle.list_laws.proofs.Places.{get_front}
+use mathlib.Core.Option.{some, some_injective, some_ne_none}
 use lib.ListN.{get_elem?}
 use Rattle.crossbeam_queue.specs.Fifo.{Pushes, Pops, Forks, Merges, Learns}
 use Rattle.crossbeam_queue.proofs.Lists.{at_set, at_snoc}
@@ -12,7 +12,7 @@ use Rattle.task_pool.specs.declared.hand.Hand.{Hand}
 use Rattle.task_pool.specs.declared.waiting.Waiting.{Waiting}
 use Rattle.task_pool.specs.Hand.{hand, all_parts}
 use Rattle.task_pool.specs.Rule.{below, kept_weight, IsLaid, Fits, Owing, Holds, Takes, Lays, Gives, Counts}
-use Rattle.task_pool.proofs.Totals.{total-append, total-set, term_le, two_terms_le, total-alone, total-ones, below-ones}
+use Rattle.task_pool.proofs.Totals.{total_append, total_set, term_le, two_terms_le, total_alone, total_ones, below_ones}
 
 laid_last : {T : Type 0} (laid : List T) (t : T) (i : ℕ) → i ≡ length laid → slice_get (laid ++ t ∷ []) i ≡ Some t
 laid_last [] t zero e = refl
@@ -27,8 +27,8 @@ module _ {T D : Type 0} (owes : T → D → Type 0) where
       ⊎_elim (λ (x : (j ≡ port) × (w ≡ u)). subst (Fits laid) x.1 mine) (λ (x : (j ≢ port) × (get_elem? views j ≡ some u)). others j u x.0 x.1) (at_set views port j w u e)
 
   begins_at : (pass : ℕ) (v : Hand T) → get_elem? (hand all_parts [] [] ∷ []) pass ≡ some v → Fits [] v
-  begins_at zero v at = subst (Fits []) (some-injective _ v at) (record { knows = λ _. refl; idle = λ none. absurd (omega arith); placed = tt })
-  begins_at (suc pass) v at = absurd (some-ne-none v (sym at))
+  begins_at zero v at = subst (Fits []) (some_injective _ v at) (record { knows = λ _. refl; idle = λ none. absurd (omega arith); placed = tt })
+  begins_at (suc pass) v at = absurd (some_ne_none v (sym at))
 
   pub begins : Holds owes [] (hand all_parts [] [] ∷ [])
   begins = record { laid = []; parts = refl; once = λ weight. refl; waiting = tt; hands = begins_at }
@@ -40,8 +40,8 @@ module _ {T D : Type 0} (owes : T → D → Type 0) where
       let same : length v.laid ≡ length h.laid = ap length ((h.hands port v at).knows some_part) in
       let sum = h.once (λ _. 1) in
       let mine = term_le (λ (u : Hand T). kept_weight (λ _. 1) u.kept) views port v at in
-      let kept : kept_weight (λ _. 1) v.kept ≡ length v.kept = total-ones v.kept in
-      omega (arith, below-ones (length h.laid))
+      let kept : kept_weight (λ _. 1) v.kept ≡ length v.kept = total_ones v.kept in
+      omega (arith, below_ones (length h.laid))
 
   pub takes : (port : ℕ) (v : Hand T) → 0 < v.parts → Pops (Holds owes) port v (Takes owes v)
   takes port v some_part x items views h at =
@@ -51,14 +51,14 @@ module _ {T D : Type 0} (owes : T → D → Type 0) where
         w,
         record {
           laid = h.laid;
-          parts = (let e = total-set (λ (u : Hand T). u.parts) views port v w at in let p = h.parts in omega arith);
+          parts = (let e = total_set (λ (u : Hand T). u.parts) views port v w at in let p = h.parts in omega arith);
           once = λ weight.
-              let e = total-set (λ (u : Hand T). kept_weight weight u.kept) views port v w at in
+              let e = total_set (λ (u : Hand T). kept_weight weight u.kept) views port v w at in
               let p = h.once weight in
-              omega (arith, total-append (λ (e : ℕ × T). weight e.0) v.kept ((x.place, first.first) ∷ []));
+              omega (arith, total_append (λ (e : ℕ × T). weight e.0) v.kept ((x.place, first.first) ∷ []));
           waiting = h.waiting.1;
           hands = hands_set h.laid views port w
-              (record { knows = mine.knows; idle = λ none. absurd (omega arith); placed = each-append (IsLaid h.laid) v.kept ((x.place, first.first) ∷ []) mine.placed (first.at, tt) })
+              (record { knows = mine.knows; idle = λ none. absurd (omega arith); placed = each_append (IsLaid h.laid) v.kept ((x.place, first.first) ∷ []) mine.placed (first.at, tt) })
               (λ j u other there. h.hands j u there);
         },
         record { first = first.first; keeps = refl; at = ap (λ l. slice_get l x.place) (mine.knows some_part) ∙ first.at; pays = first.pays; room = room v x items views port some_part at h },
@@ -76,21 +76,21 @@ module _ {T D : Type 0} (owes : T → D → Type 0) where
         w,
         record {
           laid = h.laid;
-          parts = (let e = total-set (λ (u : Hand T). u.parts) views port v w at in let p = h.parts in omega arith);
+          parts = (let e = total_set (λ (u : Hand T). u.parts) views port v w at in let p = h.parts in omega arith);
           once = λ weight.
-              let e = total-set (λ (u : Hand T). kept_weight weight u.kept) views port v w at in
+              let e = total_set (λ (u : Hand T). kept_weight weight u.kept) views port v w at in
               let p = h.once weight in
               let before : kept_weight weight v.kept ≡ kept_weight weight rest + weight x.place =
-              ap (kept_weight weight) is ∙ (total-append (λ (e : ℕ × T). weight e.0) rest ((x.place, first) ∷ []) ∙ ap (λ k. kept_weight weight rest + k) (omega arith)) in
+              ap (kept_weight weight) is ∙ (total_append (λ (e : ℕ × T). weight e.0) rest ((x.place, first) ∷ []) ∙ ap (λ k. kept_weight weight rest + k) (omega arith)) in
               let after : kept_weight weight w.kept ≡ kept_weight weight rest = ap (kept_weight weight) front in
-              omega (arith, total-append (λ (y : Waiting T). weight y.place) items (x ∷ []));
-          waiting = each-append (Owing owes h.laid) items (x ∷ []) h.waiting
-              (record { first = first; at = (each-back (IsLaid h.laid) rest ((x.place, first) ∷ []) placed).0; pays = pays }, tt);
+              omega (arith, total_append (λ (y : Waiting T). weight y.place) items (x ∷ []));
+          waiting = each_append (Owing owes h.laid) items (x ∷ []) h.waiting
+              (record { first = first; at = (each_back (IsLaid h.laid) rest ((x.place, first) ∷ []) placed).0; pays = pays }, tt);
           hands = hands_set h.laid views port w
               (record {
                 knows = mine.knows;
                 idle = λ none. absurd (omega arith);
-                placed = subst (AllByRecursion (IsLaid h.laid)) (sym front) (each-front (IsLaid h.laid) rest ((x.place, first) ∷ []) placed);
+                placed = subst (AllByRecursion (IsLaid h.laid)) (sym front) (each_front (IsLaid h.laid) rest ((x.place, first) ∷ []) placed);
               })
               (λ j u other there. h.hands j u there);
         },
@@ -102,23 +102,23 @@ module _ {T D : Type 0} (owes : T → D → Type 0) where
       let mine = h.hands port v at in
       let same : v.laid ≡ h.laid = mine.knows (omega arith) in
       let longer : List T = v.laid ++ x.task ∷ [] in
-      let stays : (i : ℕ) (t : T) → slice_get h.laid i ≡ Some t → slice_get longer i ≡ Some t = λ i t there. get-front v.laid (x.task ∷ []) i t (ap (λ l. slice_get l i) same ∙ there) in
+      let stays : (i : ℕ) (t : T) → slice_get h.laid i ≡ Some t → slice_get longer i ≡ Some t = λ i t there. get_front v.laid (x.task ∷ []) i t (ap (λ l. slice_get l i) same ∙ there) in
       let w : Hand T = hand v.parts longer v.kept in (
         w,
         record {
           laid = longer;
-          parts = (let e = total-set (λ (u : Hand T). u.parts) views port v w at in let p = h.parts in omega arith);
+          parts = (let e = total_set (λ (u : Hand T). u.parts) views port v w at in let p = h.parts in omega arith);
           once = λ weight.
-              let e = total-set (λ (u : Hand T). kept_weight weight u.kept) views port v w at in
+              let e = total_set (λ (u : Hand T). kept_weight weight u.kept) views port v w at in
               let p = h.once weight in
               let size : below weight (length longer) ≡ below weight (length h.laid) + weight x.place =
               ap (below weight) (length-append v.laid (x.task ∷ []) ∙ add-one (length v.laid)) ∙ (ap (λ k. below weight k + weight (length v.laid)) (ap length same) ∙ ap (λ k. below weight (length h.laid) + weight k) (sym next)) in
-              omega (arith, total-append (λ (y : Waiting T). weight y.place) items (x ∷ []));
-          waiting = each-append (Owing owes longer) items (x ∷ [])
-              (each-weaker (Owing owes h.laid) (Owing owes longer) (λ y owing. record { first = owing.first; at = stays y.place owing.first owing.at; pays = owing.pays }) items h.waiting)
+              omega (arith, total_append (λ (y : Waiting T). weight y.place) items (x ∷ []));
+          waiting = each_append (Owing owes longer) items (x ∷ [])
+              (each_weaker (Owing owes h.laid) (Owing owes longer) (λ y owing. record { first = owing.first; at = stays y.place owing.first owing.at; pays = owing.pays }) items h.waiting)
               (record { first = x.task; at = laid_last v.laid x.task x.place next; pays = λ done owed. owed }, tt);
           hands = hands_set longer views port w
-              (record { knows = λ _. refl; idle = λ none. absurd (omega arith); placed = each-weaker (IsLaid h.laid) (IsLaid longer) (λ e there. stays e.0 e.1 there) v.kept mine.placed })
+              (record { knows = λ _. refl; idle = λ none. absurd (omega arith); placed = each_weaker (IsLaid h.laid) (IsLaid longer) (λ e there. stays e.0 e.1 there) v.kept mine.placed })
               (λ j u other there.
               let le = two_terms_le (λ (u : Hand T). u.parts) views port j v u at there other in
               let p = h.parts in
@@ -140,11 +140,11 @@ module _ {T D : Type 0} (owes : T → D → Type 0) where
       let others = hands_set h.laid views port left (record { knows = λ _. mine.knows (omega arith); idle = λ none. absurd (omega arith); placed = mine.placed }) (λ j u other there. h.hands j u there) in
       record {
         laid = h.laid;
-        parts = (let e = total-set (λ (u : Hand T). u.parts) views port v left at in let p = h.parts in omega (arith, total-append (λ (u : Hand T). u.parts) (set views port left) (right ∷ [])));
+        parts = (let e = total_set (λ (u : Hand T). u.parts) views port v left at in let p = h.parts in omega (arith, total_append (λ (u : Hand T). u.parts) (set views port left) (right ∷ [])));
         once = λ weight.
-            let e = total-set (λ (u : Hand T). kept_weight weight u.kept) views port v left at in
+            let e = total_set (λ (u : Hand T). kept_weight weight u.kept) views port v left at in
             let p = h.once weight in
-            omega (arith, total-append (λ (u : Hand T). kept_weight weight u.kept) (set views port left) (right ∷ []));
+            omega (arith, total_append (λ (u : Hand T). kept_weight weight u.kept) (set views port left) (right ∷ []));
         waiting = h.waiting;
         hands = λ j u there. ⊎_elim (λ (old : get_elem? (set views port left) j ≡ some u). others j u old)
             (λ (is : right ≡ u). subst (Fits h.laid) is (record { knows = λ _. mine.knows (omega arith); idle = λ none. refl; placed = tt }))
@@ -161,16 +161,16 @@ module _ {T D : Type 0} (owes : T → D → Type 0) where
       let theirs = h.hands other u was in
       record {
         laid = h.laid;
-        parts = (let e = total-set (λ (u : Hand T). u.parts) views port v both at in let d = total-set (λ (u : Hand T). u.parts) (set views port both) other u spent at' in let p = h.parts in omega arith);
+        parts = (let e = total_set (λ (u : Hand T). u.parts) views port v both at in let d = total_set (λ (u : Hand T). u.parts) (set views port both) other u spent at' in let p = h.parts in omega arith);
         once = λ weight.
-            let e = total-set (λ (u : Hand T). kept_weight weight u.kept) views port v both at in
-            let d = total-set (λ (u : Hand T). kept_weight weight u.kept) (set views port both) other u spent at' in
+            let e = total_set (λ (u : Hand T). kept_weight weight u.kept) views port v both at in
+            let d = total_set (λ (u : Hand T). kept_weight weight u.kept) (set views port both) other u spent at' in
             let p = h.once weight in
-            omega (arith, total-append (λ (e : ℕ × T). weight e.0) v.kept u.kept);
+            omega (arith, total_append (λ (e : ℕ × T). weight e.0) v.kept u.kept);
         waiting = h.waiting;
         hands = hands_set h.laid (set views port both) other spent (record { knows = λ part. absurd (omega arith); idle = λ _. refl; placed = tt })
             (λ j y _ there. hands_set h.laid views port both
-            (record { knows = λ _. mine.knows some_part; idle = λ none. absurd (omega arith); placed = each-append (IsLaid h.laid) v.kept u.kept mine.placed theirs.placed })
+            (record { knows = λ _. mine.knows some_part; idle = λ none. absurd (omega arith); placed = each_append (IsLaid h.laid) v.kept u.kept mine.placed theirs.placed })
             (λ i x _ at. h.hands i x at) j y there);
       }
 
@@ -178,7 +178,7 @@ module _ {T D : Type 0} (owes : T → D → Type 0) where
   counts port v items views h at all weight =
       let mine = h.hands port v at in
       let same : length v.laid ≡ length h.laid = ap length (mine.knows (omega arith)) in
-      let alone = total-alone (λ (u : Hand T). kept_weight weight u.kept) (λ (u : Hand T). u.parts) views port v
+      let alone = total_alone (λ (u : Hand T). kept_weight weight u.kept) (λ (u : Hand T). u.parts) views port v
       (λ j u there none. ap (kept_weight weight) ((h.hands j u there).idle none)) at (h.parts ∙ sym all) in
       let p = h.once weight in
       let size : below weight (length v.laid) ≡ below weight (length h.laid) = ap (below weight) same in
@@ -189,7 +189,7 @@ pub never_full : {T : Type 0} (v : Hand T) (items : List (Waiting T)) (room : �
 never_full v items room all none full counted short =
     let p = counted all (λ _. 1) in
     let k : kept_weight (λ _. 1) v.kept ≡ 0 = ap (kept_weight (λ _. 1)) none in
-    omega (arith, total-ones items, below-ones (length v.laid))
+    omega (arith, total_ones items, below_ones (length v.laid))
 
 -- a pass that takes or gives keeps its parts
 pub still_part : {T : Type 0} (parts : ℕ) (w : Hand T) (laid : List T) (kept : List (ℕ × T)) → w ≡ hand parts laid kept → 0 < parts → 0 < w.parts

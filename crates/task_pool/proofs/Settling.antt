@@ -2,7 +2,7 @@
 use Rattle.std.proofs.Common.{◌≡◌, ◌≢◌, ◌⊎◌, ℕ, zero, suc, ◌<◌, List, [], ◌∷◌, ◌++◌, length, set, replicate, slice_get, Option, Some, None, refl, sym, ap, ◌∙◌, subst, inl, inr, ⊎_elim, arith, length-set, append_assoc, append-nil}
 use Rattle.std.specs.List.{AllZip}
 use Rattle.std.proofs.lemmas.Option.{slice_get_within}
-use Rattle.list_laws.proofs.Each.{each-append, each-weaker}
+use Rattle.list_laws.proofs.Each.{each_append, each_weaker}
 use Rattle.task_pool.specs.declared.waiting.Finished.{Finished}
 use Rattle.task_pool.specs.Results.{IsPaid, Settled}
 
@@ -21,13 +21,13 @@ blank_at zero k x y at = cc
 blank_at (suc n) zero x y at = cc
 blank_at (suc n) (suc k) x y at = blank_at n k x y at
 
-length-blank : {A : Type 0} (n : ℕ) (x : A) → length (replicate n x) ≡ n
-length-blank zero x = refl
-length-blank (suc n) x = omega (arith, length-blank n x)
+length_blank : {A : Type 0} (n : ℕ) (x : A) → length (replicate n x) ≡ n
+length_blank zero x = refl
+length_blank (suc n) x = omega (arith, length_blank n x)
 
 module _ {T D : Type 0} (owes : T → D → Type 0) where
   pub settled_none : (laid : List T) (n : ℕ) → n ≡ length laid → Settled owes laid [] (replicate n None)
-  settled_none laid n e = record { size = length-blank n None ∙ e; owed = λ k done at. (let x : None ≡ Some done = blank_at n k None (Some done) at in cc); filled = tt }
+  settled_none laid n e = record { size = length_blank n None ∙ e; owed = λ k done at. (let x : None ≡ Some done = blank_at n k None (Some done) at in cc); filled = tt }
 
   pub settled_more : (laid : List T) (kept : List (ℕ × T)) (answers : List (Option D)) (e : ℕ × T) (f : Finished D) → Settled owes laid kept answers → IsPaid owes laid e f
       → Settled owes laid (kept ++ e ∷ []) (set answers f.place (Some f.done))
@@ -44,8 +44,8 @@ module _ {T D : Type 0} (owes : T → D → Type 0) where
             (e.1, ap (slice_get laid) (here.0 ∙ paid.0) ∙ paid.1, subst (owes e.1) same paid.2))
             (λ (there : (k ≢ f.place) × (slice_get (set answers f.place (Some f.done)) k ≡ slice_get answers k)). settled.owed k done (sym there.1 ∙ at))
             (set_cases answers f.place k (Some f.done) lt);
-        filled = each-append _ kept (e ∷ [])
-            (each-weaker _ _ (λ o was. ⊎_elim
+        filled = each_append _ kept (e ∷ [])
+            (each_weaker _ _ (λ o was. ⊎_elim
             (λ (here : (o.0 ≡ f.place) × (slice_get (set answers f.place (Some f.done)) o.0 ≡ Some (Some f.done))). (f.done, here.1))
             (λ (there : (o.0 ≢ f.place) × (slice_get (set answers f.place (Some f.done)) o.0 ≡ slice_get answers o.0)). (was.0, there.1 ∙ was.1))
             (set_cases answers f.place o.0 (Some f.done) lt)) kept settled.filled) (

@@ -13,7 +13,7 @@ use Rattle.vchan_protocol.specs.declared.side.Side.{Side}
 use Rattle.vchan_protocol.specs.Table.Calls.{payload_of}
 use Rattle.vchan_protocol.specs.Table.Plan.{after}
 use Rattle.vchan_protocol.specs.History.Core.{count_stored, made, op_next, plan_left, sent_after, sent_stored, side_after}
-use Rattle.vchan_protocol.proofs.History.EventLaws.{settled-sent}
+use Rattle.vchan_protocol.proofs.History.EventLaws.{settled_sent}
 use Rattle.vchan_rule.specs.Ends.{Pays, seen_by}
 
 adds_none : (trail : List PastEvent) (sent : List ℕ) → sent ++ take (count_stored trail) [] ≡ sent
@@ -60,4 +60,4 @@ seen_sent (Some call) s = refl
 pub sent_stays : (begun : Option Call) (s now : Side) (taken : ℕ) → Pays begun s [] → now ≡ side_after (seen_by begun s []) taken → now.sent ≡ s.sent
 sent_stays begun s now taken pays is =
     let inside = seen_by begun s [] in
-    ap (λ (z : Side). z.sent) is ∙ settled-sent (made inside (op_next inside) taken) (after (plan_left inside) taken) ∙ sends_none (op_next inside) inside (no_payload begun s pays) ∙ seen_sent begun s
+    ap (λ (z : Side). z.sent) is ∙ settled_sent (made inside (op_next inside) taken) (after (plan_left inside) taken) ∙ sends_none (op_next inside) inside (no_payload begun s pays) ∙ seen_sent begun s

@@ -1,6 +1,6 @@
 -- How a run ends that has nothing to do.
 use Rattle.std.proofs.Common.{◌≡◌, ℕ, ◌<◌, List, [], Option, Some, None, refl, arith}
-use Rattle.vchan_io.proofs.Streaming.{Takes-none}
+use Rattle.vchan_io.proofs.Streaming.{Takes_none}
 use Rattle.vchan.specs.declared.command.Command.{Command}
 use Rattle.vchan.specs.declared.status.Status.TheVariants.{BadWords, TooLong}
 use Rattle.vchan.specs.Command.{command_of}
@@ -22,7 +22,7 @@ pub bad_words_end : (words : List (List ℕ)) (left : Option (List ℕ)) (reads 
     IsRun words left left reads reads held held writes writes (record { status = BadWords; report = None; settled = [] })
 bad_words_end words left reads held writes is = record {
   taken = [];
-  takes = Takes-none left;
+  takes = Takes_none left;
   unread = λ _. refl;
   bad_words = (λ _. is, λ _. refl);
   too_long = (λ same. absurd (not_too_long same), λ long. absurd (none_long long));

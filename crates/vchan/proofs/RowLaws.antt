@@ -1,7 +1,7 @@
 -- A run of a scenario has the rings that its file says on each page.
 use Rattle.std.proofs.Common.{◌≡◌, ℕ, List, [], ◌∷◌, Option, Some, None, Ok, ap, subst, ◌∙◌}
 use Rattle.std.specs.List.{AllByRecursion as Each}
-use Rattle.vchan_io.proofs.Streaming.{Takes-all}
+use Rattle.vchan_io.proofs.Streaming.{Takes_all}
 use Rattle.end_view.specs.Settled.{Settled}
 use Rattle.scenario_file.specs.Scenario.{Plan as Scenario, written, order_numbers}
 use Rattle.scenario_file.specs.Tables.{scenario_of}
@@ -76,7 +76,7 @@ pages_of_row words workers file s left' reads reads' held held' writes writes' e
     let same : shown.printed.0 ≡ Run workers = cc in
     let prints : PrintsReport run.taken shown.text report =
     run_prints workers run.taken shown.text report shown.pages (subst (λ (c : Command). Prints c run.taken shown.text (Some report) shown.pages) same shown.printed.2) in
-    let whole : run.taken ≡ file = Takes-all (Some file) left' run.taken run.takes (shown.read (ap words_read command)) in
+    let whole : run.taken ≡ file = Takes_all (Some file) left' run.taken run.takes (shown.read (ap words_read command)) in
     let one : scenario_of file ≡ Ok (written prints.scenario) = subst (λ (bytes : List ℕ). scenario_of bytes ≡ Ok (written prints.scenario)) whole prints.reads in
     let seen : written s ≡ written prints.scenario = cc in
     each_is prints.scenario report.pages (subst HasRowRings seen rings) prints.lawful.begun

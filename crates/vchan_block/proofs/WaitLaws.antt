@@ -30,45 +30,45 @@ notes_along : Role → Notes → List PastEvent → Notes
 notes_along role n [] = n
 notes_along role n (event ∷ events) = notes_along role (noted event.op role event.taken n) events
 
-notes-along : (s : Side) (events : List PastEvent) → (side_along s events).notes ≡ notes_along s.role s.notes events
+notes_along_lem : (s : Side) (events : List PastEvent) → (side_along s events).notes ≡ notes_along s.role s.notes events
 unfolding notes_along
-notes-along s [] = refl
-notes-along s (event ∷ events) = notes-along (made s event.op event.taken) events
+notes_along_lem s [] = refl
+notes_along_lem s (event ∷ events) = notes_along_lem (made s event.op event.taken) events
 
 -- whatever the values are, the notes fit when the plan answers
 unfoldable Leaves : (Notes → Answer → Type 0) → Role → Notes → Plan → Type 0
 Leaves Fit role n (answers answer) = Fit n answer
 Leaves Fit role n (does op next) = (value : ℕ) → Leaves Fit role (noted op role value n) (next value)
 
-Leaves-Leads : (Fit : Notes → Answer → Type 0) (role : Role) (n : Notes) (plan : Plan) (events : List PastEvent) (answer : Answer) → Leaves Fit role n plan → Leads plan events (answers answer) →
+Leaves_Leads : (Fit : Notes → Answer → Type 0) (role : Role) (n : Notes) (plan : Plan) (events : List PastEvent) (answer : Answer) → Leaves Fit role n plan → Leads plan events (answers answer) →
     Fit (notes_along role n events) answer
 unfolding Leaves notes_along
-Leaves-Leads Fit role n (answers given) [] answer w led = subst (λ (a : Answer). Fit n a) (same given answer led) w
+Leaves_Leads Fit role n (answers given) [] answer w led = subst (λ (a : Answer). Fit n a) (same given answer led) w
   where
     same : (given answer : Answer) → answers given ≡ answers answer → given ≡ answer
     same given answer led = cc
-Leaves-Leads Fit role n (does op next) [] answer w led = absurd (apart op next answer led)
+Leaves_Leads Fit role n (does op next) [] answer w led = absurd (apart op next answer led)
   where
     apart : (op : Op) (next : ℕ → Plan) (answer : Answer) → does op next ≡ answers answer → ⊥
     apart op next answer led = cc
-Leaves-Leads Fit role n (answers given) (event ∷ events) answer w led = absurd led
-Leaves-Leads Fit role n (does op next) (event ∷ events) answer w led =
-    Leaves-Leads Fit role (noted event.op role event.taken n) (next event.taken) events answer
+Leaves_Leads Fit role n (answers given) (event ∷ events) answer w led = absurd led
+Leaves_Leads Fit role n (does op next) (event ∷ events) answer w led =
+    Leaves_Leads Fit role (noted event.op role event.taken n) (next event.taken) events answer
     (subst (λ (o : Op). Leaves Fit role (noted o role event.taken n) (next event.taken)) (sym led.0) (w event.taken)) led.1
 
 -- ---- the pieces of the rows
 
-look_read-noted : (role : Role) (taken : ℕ) (n : Notes) → noted_load (prod_word (read_ring role)) role taken n ≡ record n { written = index_seen (low32 taken) n.written }
-look_read-noted Server taken n = refl
-look_read-noted Client taken n = refl
+look_read_noted : (role : Role) (taken : ℕ) (n : Notes) → noted_load (prod_word (read_ring role)) role taken n ≡ record n { written = index_seen (low32 taken) n.written }
+look_read_noted Server taken n = refl
+look_read_noted Client taken n = refl
 
-look_write-noted : (role : Role) (taken : ℕ) (n : Notes) → noted_load (cons_word (written_ring role)) role taken n ≡ record n { consumed = index_seen (low32 taken) n.consumed }
-look_write-noted Server taken n = refl
-look_write-noted Client taken n = refl
+look_write_noted : (role : Role) (taken : ℕ) (n : Notes) → noted_load (cons_word (written_ring role)) role taken n ≡ record n { consumed = index_seen (low32 taken) n.consumed }
+look_write_noted Server taken n = refl
+look_write_noted Client taken n = refl
 
-live-noted : (role : Role) (taken : ℕ) (n : Notes) → noted_load (peer_live role) role taken n ≡ record n { live = Some (low8 taken) }
-live-noted Server taken n = refl
-live-noted Client taken n = refl
+live_noted : (role : Role) (taken : ℕ) (n : Notes) → noted_load (peer_live role) role taken n ≡ record n { live = Some (low8 taken) }
+live_noted Server taken n = refl
+live_noted Client taken n = refl
 
 module _ (Fit : Notes → Answer → Type 0) (e : Standing) where
   leaves_answers : (n : Notes) (answer : Answer) → Fit n answer → Leaves Fit e.role n (answers answer)
@@ -84,15 +84,15 @@ module _ (Fit : Notes → Answer → Type 0) (e : Standing) where
   leaves_if n false p q first second = second refl
 
   leaves_look_read : (n : Notes) (next : ℕ → Plan) → ((index : ℕ) → Leaves Fit e.role (record n { written = index_seen index n.written }) (next index)) → Leaves Fit e.role n (look_read e next)
-  leaves_look_read n next w = leaves_does n _ _ (λ value. subst (λ (m : Notes). Leaves Fit e.role m (next (low32 value))) (sym (look_read-noted e.role value n)) (w (low32 value)))
+  leaves_look_read n next w = leaves_does n _ _ (λ value. subst (λ (m : Notes). Leaves Fit e.role m (next (low32 value))) (sym (look_read_noted e.role value n)) (w (low32 value)))
 
   leaves_look_write : (n : Notes) (next : ℕ → Plan) → ((index : ℕ) → Leaves Fit e.role (record n { consumed = index_seen index n.consumed }) (next index)) → Leaves Fit e.role n (look_write e next)
-  leaves_look_write n next w = leaves_does n _ _ (λ value. subst (λ (m : Notes). Leaves Fit e.role m (next (low32 value))) (sym (look_write-noted e.role value n)) (w (low32 value)))
+  leaves_look_write n next w = leaves_does n _ _ (λ value. subst (λ (m : Notes). Leaves Fit e.role m (next (low32 value))) (sym (look_write_noted e.role value n)) (w (low32 value)))
 
   leaves_live : (n : Notes) (first second : Plan) → ((m : Notes) → Leaves Fit e.role m first) → ((live : ℕ) → live ≢ 0 → Leaves Fit e.role (record n { live = Some live }) second) →
       Leaves Fit e.role n (does (Load (peer_live e.role)) (λ live. cond (low8 live == 0) first second))
   leaves_live n first second shut alive =
-      leaves_does n _ _ (λ value. subst (λ (m : Notes). Leaves Fit e.role m (cond (low8 value == 0) first second)) (sym (live-noted e.role value n))
+      leaves_does n _ _ (λ value. subst (λ (m : Notes). Leaves Fit e.role m (cond (low8 value == 0) first second)) (sym (live_noted e.role value n))
       (leaves_if _ (low8 value == 0) first second (λ zero. shut _) (λ some. alive (low8 value) (eqb-false (low8 value) 0 some))))
 
   leaves_ask_written : (n : Notes) (next : Plan) → Leaves Fit e.role (record n { written = asks }) next → Leaves Fit e.role n (ask e Written next)
@@ -215,13 +215,13 @@ module _ (e : Standing) (n : ℕ) where
 round_notes : (was : Side) (call : Call) (payload : List ℕ) (events : List PastEvent) (answer : Answer) → Trace (standing_of was) call events answer → IsUnfinished call answer →
     HasNoted (standing_of was) call (side_called was call payload events answer).notes answer
 round_notes was call payload events answer trace unfinished =
-    subst (λ (m : Notes). HasNoted (standing_of was) call m answer) (sym (notes-along (begins was call payload) events)) (noted_by call answer trace unfinished)
+    subst (λ (m : Notes). HasNoted (standing_of was) call m answer) (sym (notes_along_lem (begins was call payload) events)) (noted_by call answer trace unfinished)
   where
     noted_by : (call : Call) (answer : Answer) → Trace (standing_of was) call events answer → IsUnfinished call answer → HasNoted (standing_of was) call (notes_along was.role was.notes events) answer
-    noted_by (Write n) answer trace unfinished = Leaves-Leads (Fits (standing_of was) (Write n)) was.role was.notes _ events answer (write_leaves (standing_of was) n was.notes) trace unfinished
-    noted_by (Send n) answer trace unfinished = Leaves-Leads (Fits (standing_of was) (Send n)) was.role was.notes _ events answer (send_leaves (standing_of was) n was.notes) trace unfinished
-    noted_by (Read n) answer trace unfinished = Leaves-Leads (Fits (standing_of was) (Read n)) was.role was.notes _ events answer (read_leaves (standing_of was) n was.notes) trace unfinished
-    noted_by (Recv n) answer trace unfinished = Leaves-Leads (Fits (standing_of was) (Recv n)) was.role was.notes _ events answer (recv_leaves (standing_of was) n was.notes) trace unfinished
+    noted_by (Write n) answer trace unfinished = Leaves_Leads (Fits (standing_of was) (Write n)) was.role was.notes _ events answer (write_leaves (standing_of was) n was.notes) trace unfinished
+    noted_by (Send n) answer trace unfinished = Leaves_Leads (Fits (standing_of was) (Send n)) was.role was.notes _ events answer (send_leaves (standing_of was) n was.notes) trace unfinished
+    noted_by (Read n) answer trace unfinished = Leaves_Leads (Fits (standing_of was) (Read n)) was.role was.notes _ events answer (read_leaves (standing_of was) n was.notes) trace unfinished
+    noted_by (Recv n) answer trace unfinished = Leaves_Leads (Fits (standing_of was) (Recv n)) was.role was.notes _ events answer (recv_leaves (standing_of was) n was.notes) trace unfinished
     noted_by (Drain n) answer trace unfinished = absurd unfinished
     noted_by DataReady answer trace unfinished = absurd unfinished
     noted_by BufferSpace answer trace unfinished = absurd unfinished

@@ -12,7 +12,7 @@ use Rattle.ring_words.specs.declared.page.Role.TheVariants.{Server, Client}
 use Rattle.ring_words.specs.declared.page.WordName.{WordName}
 use Rattle.ring_words.specs.declared.page.WordName.TheVariants.{RingByte}
 use Rattle.ring_words.specs.Rings.{place, size}
-use Rattle.ring_words.proofs.RingLaws.{place_on, size-within}
+use Rattle.ring_words.proofs.RingLaws.{place_on, size_within}
 use Rattle.std.proofs.lemmas.Bool.{false≢true}
 use Rattle.vchan_protocol.specs.declared.op.Op.{Op}
 use Rattle.vchan_protocol.specs.declared.op.Op.TheVariants.{Load, LoadByte, Store, StoreByte, Or, And, Swap, Nothing}
@@ -42,7 +42,7 @@ place_front : (n j : ℕ) (order : Order) → place n order + j ≡ size order �
 unfolding place
 place_front n j order h =
     let apart : n + j ≡ (n / size order + 1) * size order + 0 = omega (arith, div-add-mod' n (size order), h) in
-    ap (λ (k : ℕ). k % size order) apart ∙ mod-mul-add (n / size order + 1) (size order) 0 (omega (arith, (size-within order).0))
+    ap (λ (k : ℕ). k % size order) apart ∙ mod-mul-add (n / size order + 1) (size order) 0 (omega (arith, (size_within order).0))
 
 place_round : (n j k : ℕ) (order : Order) → place n order + j ≡ size order → k < size order → place (n + (j + k)) order ≡ k
 place_round n j k order h within =
@@ -121,10 +121,10 @@ takes_lead values m now span bytes take are is =
 -- ---- stretches
 
 -- two lists of events, one after the other
-pub Leads-join : (p : Plan) (xs ys : List PastEvent) (q r : Plan) → Leads p xs q → Leads q ys r → Leads p (xs ++ ys) r
-Leads-join p [] ys q r one two = subst (λ (x : Plan). Leads x ys r) (sym one) two
-Leads-join (answers answer) (x ∷ xs) ys q r one two = absurd one
-Leads-join (does op next) (x ∷ xs) ys q r one two = (one.0, Leads-join (next x.taken) xs ys q r one.1 two)
+pub Leads_join : (p : Plan) (xs ys : List PastEvent) (q r : Plan) → Leads p xs q → Leads q ys r → Leads p (xs ++ ys) r
+Leads_join p [] ys q r one two = subst (λ (x : Plan). Leads x ys r) (sym one) two
+Leads_join (answers answer) (x ∷ xs) ys q r one two = absurd one
+Leads_join (does op next) (x ∷ xs) ys q r one two = (one.0, Leads_join (next x.taken) xs ys q r one.1 two)
 
 signal_prod : (role : Role) (count : ℕ) → prod_after (Store (peer_pending role) 1) role count ≡ count
 signal_prod Server count = refl
@@ -173,9 +173,9 @@ module _ (m mid late end now : Machine) (moves : Moves) (store : Option Stored) 
   pub stretched : IsLast last now → (last ≡ Further → (values : ℕ → ℕ) → (value : ℕ) → told values value (standing m) (record { moves = moves; store = store; signals = signals; last = last }) ≢ [])
       → IsStretch (rest m) (standing m) (record { moves = moves; store = store; signals = signals; last = last }) now
   stretched last_is some = record {
-    leads = λ values value. Leads-join (rest m) (moved values moves) (stored store ++ (signalled (standing m) signals ++ notified (standing m) last value)) (rest mid) (left last now) (moves_lead values)
-        (Leads-join (rest mid) (stored store) (signalled (standing m) signals ++ notified (standing m) last value) (rest late) (left last now) store_leads
-        (Leads-join (rest late) (signalled (standing m) signals) (notified (standing m) last value) (rest end) (left last now) signal_here (last_here value)));
+    leads = λ values value. Leads_join (rest m) (moved values moves) (stored store ++ (signalled (standing m) signals ++ notified (standing m) last value)) (rest mid) (left last now) (moves_lead values)
+        (Leads_join (rest mid) (stored store) (signalled (standing m) signals ++ notified (standing m) last value) (rest late) (left last now) store_leads
+        (Leads_join (rest late) (signalled (standing m) signals) (notified (standing m) last value) (rest end) (left last now) signal_here (last_here value)));
     stands = last_stays ∙ (signal_stays ∙ late_stands);
     last_is = last_is;
     some = some;
@@ -194,16 +194,16 @@ no_event signal (And word bits) byte store other passed = passed
 no_event signal (Swap word value) byte store other passed = passed
 no_event signal Nothing byte store other passed = passed
 
-cons-some : (x : PastEvent) (xs : List PastEvent) → x ∷ xs ≢ []
-cons-some x xs = λ is. cc
+cons_some : (x : PastEvent) (xs : List PastEvent) → x ∷ xs ≢ []
+cons_some x xs = λ is. cc
 
-puts-some : (bytes : Bytes) (n : ℕ) (more : List PastEvent) → 0 < n → puts_told bytes 0 n ++ more ≢ []
-puts-some bytes zero more h = absurd (omega (arith, h))
-puts-some bytes (suc n) more h = cons-some _ _
+puts_some : (bytes : Bytes) (n : ℕ) (more : List PastEvent) → 0 < n → puts_told bytes 0 n ++ more ≢ []
+puts_some bytes zero more h = absurd (omega (arith, h))
+puts_some bytes (suc n) more h = cons_some _ _
 
-takes-some : (values : ℕ → ℕ) (bytes : Bytes) (n : ℕ) (more : List PastEvent) → 0 < n → takes_told values bytes 0 n ++ more ≢ []
-takes-some values bytes zero more h = absurd (omega (arith, h))
-takes-some values bytes (suc n) more h = cons-some _ _
+takes_some : (values : ℕ → ℕ) (bytes : Bytes) (n : ℕ) (more : List PastEvent) → 0 < n → takes_told values bytes 0 n ++ more ≢ []
+takes_some values bytes zero more h = absurd (omega (arith, h))
+takes_some values bytes (suc n) more h = cons_some _ _
 
 pub told_some : (m mid late end : Machine) (moves : Moves) (store : Option Stored) (signals : Bool) (last : Last) (payload buffer : ℕ)
     → ((values : ℕ → ℕ) → Leads (rest m) (moved values moves) (rest mid)) → MovesWithin (standing m) payload buffer moves → (moves ≡ NoBytes → ¬ IsOnByte (next_op (rest m)))
@@ -212,11 +212,11 @@ pub told_some : (m mid late end : Machine) (moves : Moves) (store : Option Store
     → IsPassed (next_op (rest end))
     → (values : ℕ → ℕ) (value : ℕ) → told values value (standing m) (record { moves = moves; store = store; signals = signals; last = last }) ≢ []
 told_some m mid late end (Puts bytes) store signals last payload buffer moves_lead within moves_none store_leads mid_stands store_none signal_leads late_stands signal_none passed values value =
-    puts-some bytes (bytes.first + bytes.second) _ (omega (arith, within.some))
+    puts_some bytes (bytes.first + bytes.second) _ (omega (arith, within.some))
 told_some m mid late end (Takes bytes) store signals last payload buffer moves_lead within moves_none store_leads mid_stands store_none signal_leads late_stands signal_none passed values value =
-    takes-some values bytes (bytes.first + bytes.second) _ (omega (arith, within.some))
-told_some m mid late end NoBytes (Some store) signals last payload buffer moves_lead within moves_none store_leads mid_stands store_none signal_leads late_stands signal_none passed values value = cons-some _ _
-told_some m mid late end NoBytes None true last payload buffer moves_lead within moves_none store_leads mid_stands store_none signal_leads late_stands signal_none passed values value = cons-some _ _
+    takes_some values bytes (bytes.first + bytes.second) _ (omega (arith, within.some))
+told_some m mid late end NoBytes (Some store) signals last payload buffer moves_lead within moves_none store_leads mid_stands store_none signal_leads late_stands signal_none passed values value = cons_some _ _
+told_some m mid late end NoBytes None true last payload buffer moves_lead within moves_none store_leads mid_stands store_none signal_leads late_stands signal_none passed values value = cons_some _ _
 told_some m mid late end NoBytes None false last payload buffer moves_lead within moves_none store_leads mid_stands store_none signal_leads late_stands signal_none passed values value =
     let to_mid : rest m ≡ rest mid = moves_lead values in
     let to_late : rest mid ≡ rest late = store_leads in
@@ -235,8 +235,8 @@ pub store_answers : (m mid now : Machine) (moves : Moves) (store : Option Stored
     → told ≡ Some answer → IsIdle now
     → IsStretch (rest m) (standing m) (record { moves = moves; store = store; signals = false; last = Answered answer }) now
 store_answers m mid now moves store told answer moves_lead moves_stand store_leads store_stands is idle = record {
-  leads = λ values value. Leads-join (rest m) (moved values moves) (stored store ++ []) (rest mid) (answers answer) (moves_lead values)
-      (Leads-join (rest mid) (stored store) [] (answers answer) (answers answer) (subst (λ (o : Option Answer). Leads (rest mid) (stored store) (rest_or_answer o now)) is store_leads) refl);
+  leads = λ values value. Leads_join (rest m) (moved values moves) (stored store ++ []) (rest mid) (answers answer) (moves_lead values)
+      (Leads_join (rest mid) (stored store) [] (answers answer) (answers answer) (subst (λ (o : Option Answer). Leads (rest mid) (stored store) (rest_or_answer o now)) is store_leads) refl);
   stands = store_stands ∙ ap (λ (e : Standing). standing_stored store e) moves_stand;
   last_is = idle;
   some = λ is. absurd (answered_further answer is);
@@ -259,9 +259,9 @@ signal_answers m mid late now moves store signals told answer moves_lead moves_s
     subst (λ (events : List PastEvent). Leads (rest late) events (answers answer)) (signalled_as (standing late) (standing m) signals role)
     (subst (λ (o : Option Answer). Leads (rest late) (signalled (standing late) signals) (rest_or_answer o now)) is signal_leads) in
     record {
-      leads = λ values value. Leads-join (rest m) (moved values moves) (stored store ++ (signalled (standing m) signals ++ [])) (rest mid) (answers answer) (moves_lead values)
-          (Leads-join (rest mid) (stored store) (signalled (standing m) signals ++ []) (rest late) (answers answer) store_leads
-          (Leads-join (rest late) (signalled (standing m) signals) [] (answers answer) (answers answer) signal_here refl));
+      leads = λ values value. Leads_join (rest m) (moved values moves) (stored store ++ (signalled (standing m) signals ++ [])) (rest mid) (answers answer) (moves_lead values)
+          (Leads_join (rest mid) (stored store) (signalled (standing m) signals ++ []) (rest late) (answers answer) store_leads
+          (Leads_join (rest late) (signalled (standing m) signals) [] (answers answer) (answers answer) signal_here refl));
       stands = signal_stays ∙ here;
       last_is = idle;
       some = λ is. absurd (answered_further is);

@@ -8,17 +8,17 @@ use Rattle.vchan_lifecycle.specs.declared.DrainAnswer.{DrainAnswer}
 use Rattle.vchan_lifecycle.specs.declared.DrainAnswer.TheVariants.{More, NotYet, AllRead, PeerGone}
 use Rattle.vchan_lifecycle.specs.Ended.{drained_count}
 
-pub drained-sent : (e : EndView) (drained : DrainAnswer) (after : List ℕ) (saw : Bool) → (drained_to e drained after saw).sent ≡ e.sent
-drained-sent e (More count) after saw = refl
-drained-sent e (NotYet prod cons) after saw = refl
-drained-sent e AllRead after saw = refl
-drained-sent e (PeerGone prod cons) after saw = refl
+pub drained_sent : (e : EndView) (drained : DrainAnswer) (after : List ℕ) (saw : Bool) → (drained_to e drained after saw).sent ≡ e.sent
+drained_sent e (More count) after saw = refl
+drained_sent e (NotYet prod cons) after saw = refl
+drained_sent e AllRead after saw = refl
+drained_sent e (PeerGone prod cons) after saw = refl
 
-pub drained-got : (e : EndView) (drained : DrainAnswer) (after : List ℕ) (saw : Bool) → length e.got ≤ length (drained_to e drained after saw).got
-drained-got e (More count) after saw = omega (arith, length-append e.got (take count after))
-drained-got e (NotYet prod cons) after saw = omega arith
-drained-got e AllRead after saw = omega arith
-drained-got e (PeerGone prod cons) after saw = omega arith
+pub drained_got : (e : EndView) (drained : DrainAnswer) (after : List ℕ) (saw : Bool) → length e.got ≤ length (drained_to e drained after saw).got
+drained_got e (More count) after saw = omega (arith, length-append e.got (take count after))
+drained_got e (NotYet prod cons) after saw = omega arith
+drained_got e AllRead after saw = omega arith
+drained_got e (PeerGone prod cons) after saw = omega arith
 
 -- a piece that was got into the rest of a buffer comes after those before it
 pub got_some : (got part post buf : List ℕ) (count more : ℕ) → count ≤ length buf → more ≤ length part → got ≡ take count buf ++ take more part → got ≡ take (count + more) (take count buf ++ (part ++ post))

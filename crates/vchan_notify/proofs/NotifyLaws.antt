@@ -39,9 +39,9 @@ gone_answers e events answer trace = told _ _ answer AnswersGone (has_cause e Pe
 
 -- ---- the gone word is noted as it was loaded
 
-load-noted : (role : Role) (taken : ℕ) (n : Notes) → (noted (Load (peer_gone role)) role taken n).gone ≡ Some taken
-load-noted Server taken n = refl
-load-noted Client taken n = refl
+load_noted : (role : Role) (taken : ℕ) (n : Notes) → (noted (Load (peer_gone role)) role taken n).gone ≡ Some taken
+load_noted Server taken n = refl
+load_noted Client taken n = refl
 
 -- the value that a look at the gone word took
 record LooksAtGone (s : Side) (answer : Answer) : Type 0 where
@@ -49,23 +49,23 @@ record LooksAtGone (s : Side) (answer : Answer) : Type 0 where
   noted_is : s.notes.gone ≡ Some taken
   tells : answer ≡ Gone (not (taken == 0))
 
-looks-at : (was : Side) (payload : List ℕ) (events : List PastEvent) (answer : Answer) → Trace (standing_of was) PeerGone events answer → LooksAtGone (side_called was PeerGone payload events answer) answer
-looks-at was payload [] answer led = absurd (apart _ _ answer led)
+looks_at : (was : Side) (payload : List ℕ) (events : List PastEvent) (answer : Answer) → Trace (standing_of was) PeerGone events answer → LooksAtGone (side_called was PeerGone payload events answer) answer
+looks_at was payload [] answer led = absurd (apart _ _ answer led)
   where
     apart : (op : Op) (next : ℕ → Plan) (answer : Answer) → does op next ≡ answers answer → ⊥
     apart op next answer led = cc
-looks-at was payload (event ∷ []) answer led = record {
+looks_at was payload (event ∷ []) answer led = record {
   taken = event.taken;
-  noted_is = ap (λ (op : Op). (noted op was.role event.taken was.notes).gone) led.0 ∙ load-noted was.role event.taken was.notes;
+  noted_is = ap (λ (op : Op). (noted op was.role event.taken was.notes).gone) led.0 ∙ load_noted was.role event.taken was.notes;
   tells = same _ answer led.1;
 }
   where
     same : (told answer : Answer) → answers told ≡ answers answer → answer ≡ told
     same told answer led = cc
-looks-at was payload (event ∷ later ∷ events) answer led = absurd led.1
+looks_at was payload (event ∷ later ∷ events) answer led = absurd led.1
 
-gone-tells : (taken : ℕ) (is : Bool) → is ≡ not (taken == 0) → IsTrue is ↔ (taken ≢ 0)
-gone-tells taken is told = by_test (taken == 0) refl told
+gone_tells : (taken : ℕ) (is : Bool) → is ≡ not (taken == 0) → IsTrue is ↔ (taken ≢ 0)
+gone_tells taken is told = by_test (taken == 0) refl told
   where
     by_test : (zero : Bool) → (taken == 0) ≡ zero → is ≡ not zero → IsTrue is ↔ (taken ≢ 0)
     by_test true none told = let at : taken ≡ 0 = grind (arith, nat_tests, none) in ((λ yes. absurd (false≢true (sym told ∙ yes))), (λ some. absurd (some at)))
@@ -75,9 +75,9 @@ gone-tells taken is told = by_test (taken == 0) refl told
 pub found_gone : (was new : Side) (payload : List ℕ) (answer : Answer) (is : Bool) → Trace (standing_of was) PeerGone new.trail answer → new ≡ side_called was PeerGone payload new.trail answer → Gone is ≡ answer
     → IsTrue is ↔ HasFoundGone new
 found_gone was new payload answer is trace new_is told =
-    let look = looks-at was payload new.trail answer trace in
+    let look = looks_at was payload new.trail answer trace in
     let gone : new.notes.gone ≡ Some look.taken = ap (λ (s : Side). s.notes.gone) new_is ∙ look.noted_is in
-    subst (λ (o : Option ℕ). IsTrue is ↔ IsSomeAnd o (λ taken. taken ≢ 0)) (sym gone) (gone-tells look.taken is (same is (not (look.taken == 0)) (told ∙ look.tells)))
+    subst (λ (o : Option ℕ). IsTrue is ↔ IsSomeAnd o (λ taken. taken ≢ 0)) (sym gone) (gone_tells look.taken is (same is (not (look.taken == 0)) (told ∙ look.tells)))
   where
     same : (a b : Bool) → Gone a ≡ Gone b → a ≡ b
     same a b is = cc

@@ -3,7 +3,7 @@ use Rattle.std.proofs.Common.{◌≡◌, ◌↔◌, ℕ, ◌≤◌, ◌++◌, �
 use Rattle.std.proofs.lemmas.List.{take-take, take_all}
 use Rattle.std.proofs.Math.Bool.{or-false, or-true}
 use Rattle.ring_words.specs.Rings.{size}
-use Rattle.ring_words.proofs.RingLaws.{room_within, ready_within, size-within}
+use Rattle.ring_words.proofs.RingLaws.{room_within, ready_within, size_within}
 use Rattle.ring_words.specs.declared.order.Order.{Order}
 use Rattle.vchan_protocol.specs.declared.call.Answer.{Answer}
 use Rattle.vchan_protocol.specs.declared.call.Answer.TheVariants.{Sent, NoRoom, Got, Short, PeerClosed}
@@ -27,7 +27,7 @@ use Rattle.vchan_rule.specs.Called.{most_asked}
 
 -- if all that was asked for fits a ring, all was asked for
 all_asked : (order : Order) (n : ℕ) (xs : List ℕ) → min (length xs) 4294967295 ≤ n → n ≤ size order → min (length xs) 4294967295 ≡ length xs
-all_asked order n xs few fits = let within = size-within order in omega (arith, few, fits, within.1)
+all_asked order n xs few fits = let within = size_within order in omega (arith, few, fits, within.1)
 
 abbrev SendEnds : Standing → List ℕ → Answer → Type 0
 SendEnds e xs answer = AnswersSend answer × (send_told (most_asked xs) (told_send answer) ≡ answer) × (told_send answer ≡ HasSent → most_asked xs ≡ length xs)
@@ -115,7 +115,7 @@ recv_view e n payload buffer saw RecvClosed all sees =
     quiet_view e (Recv n) payload buffer PeerClosed saw true e.sent e.got (record { state = refl; stays = refl; ends = refl; drained = refl; misled = refl })
     (append-nil e.sent) (append-nil e.got) (sees ∙ or-true e.saw)
 
-pub sent-got : (e : EndView) (answer : SendAnswer) (payload : List ℕ) → (sent_to e answer payload).got ≡ e.got
-sent-got e HasSent payload = refl
-sent-got e (HasNoRoom prod cons) payload = refl
-sent-got e SendClosed payload = refl
+pub sent_got : (e : EndView) (answer : SendAnswer) (payload : List ℕ) → (sent_to e answer payload).got ≡ e.got
+sent_got e HasSent payload = refl
+sent_got e (HasNoRoom prod cons) payload = refl
+sent_got e SendClosed payload = refl

@@ -23,7 +23,7 @@ use Rattle.channel_session.specs.declared.caller.CallerEnd.{CallerEnd}
 use Rattle.channel_session.specs.declared.serving.ServingEnd.{ServingEnd}
 use Rattle.channel_session.specs.Ended.{done_of}
 use Rattle.task_duties.specs.Agent.Sessions.{CallerDone, CallerOwes, IsService}
-use Rattle.task_duties.proofs.PageLaw.{IsCallDone, outcome-done}
+use Rattle.task_duties.proofs.PageLaw.{IsCallDone, outcome_done}
 use Rattle.vchan_persist.specs.declared.client.Client.{Client}
 use Rattle.vchan_persist.specs.declared.client.Client.TheVariants.{Call, Hostile}
 use Rattle.vchan_persist.specs.declared.epoch.EpochResult.{EpochResult}
@@ -49,8 +49,8 @@ handed_back page client service (one ∷ other ∷ more ∷ tasks) dones sides p
 
 -- ---- a call
 
-small-code : (name input : List ℕ) (t : Triple) → service_of name input ≡ Some t → FitsSigned w32 t.code
-small-code name input t is = let code = small_codes name input t is in rw code.2 (fits code.0 code.1)
+small_code : (name input : List ℕ) (t : Triple) → service_of name input ≡ Some t → FitsSigned w32 t.code
+small_code name input t is = let code = small_codes name input t is in rw code.2 (fits code.0 code.1)
   where
     fits : (n : ℕ) → n ≤ 255 → FitsSigned w32 (pos n)
     fits n small = fits_signed_from_abs w32 (pos n) (omega (arith, small))
@@ -78,18 +78,18 @@ served name stdin service page caller serving s named called served_end by =
     record {
       owed = owes.owed;
       is_service = owes.is_service;
-      call_done = outcome-done 3 3 name stdin (done_of caller) serving.outcome serving.got cv sv (record { least = omega arith; small = omega arith }) (record { least = omega arith; small = omega arith }) (exchanged sv cv honest') called.owes owes
-          (λ x. small-code name x (owes.owed x) (owes.is_service x));
+      call_done = outcome_done 3 3 name stdin (done_of caller) serving.outcome serving.got cv sv (record { least = omega arith; small = omega arith }) (record { least = omega arith; small = omega arith }) (exchanged sv cv honest') called.owes owes
+          (λ x. small_code name x (owes.owed x) (owes.is_service x));
     }
 
 -- such a call has an exit code
-pub no-other : (name stdin : List ℕ) (done : CallerDone) (serving : EndView) → IsServed name stdin done serving → ((code : ℤ) → done.outcome ≡ Done code → ⊥) → ⊥
-no-other name stdin done serving is never = never (is.owed stdin).code is.call_done.outcome
+pub no_other : (name stdin : List ℕ) (done : CallerDone) (serving : EndView) → IsServed name stdin done serving → ((code : ℤ) → done.outcome ≡ Done code → ⊥) → ⊥
+no_other name stdin done serving is never = never (is.owed stdin).code is.call_done.outcome
 
 -- and with it the client is answered
-pub answered-with : (name stdin stdout stderr : List ℕ) (code : ℤ) (done : CallerDone) (cv sv : EndView) (s : Settled) → IsServed name stdin done sv → CallerOwes 3 stdin done cv → cv.turned ≡ false → s.server ≡ sv → s.client ≡ cv
+pub answered_with : (name stdin stdout stderr : List ℕ) (code : ℤ) (done : CallerDone) (cv sv : EndView) (s : Settled) → IsServed name stdin done sv → CallerOwes 3 stdin done cv → cv.turned ≡ false → s.server ≡ sv → s.client ≡ cv
     → done.outcome ≡ Done code → done.stdout ≡ stdout → done.stderr ≡ stderr → (answer_of name (Call stdin) ≡ Some (result.Answered code stdout stderr)) × IsAnswered name stdin s
-answered-with name stdin stdout stderr code done cv sv s is owes honest server_is client_is decided out err =
+answered_with name stdin stdout stderr code done cv sv s is owes honest server_is client_is decided out err =
     let gives = is.owed stdin in
     let named : service_of name stdin ≡ Some gives = is.is_service stdin in
     let call = is.call_done in
@@ -108,9 +108,9 @@ answered-with name stdin stdout stderr code done cv sv s is owes honest server_i
     )
 
 -- the epoch of a call, whose exit code goes through 32 bits
-pub call-comes : (page : PageView) (caller : CallerEnd) (serving : ServingEnd) (s : Settled) (code shown : ℤ) → IsSettledBy page serving.retired caller.retired s → caller.outcome ≡ Done code → (FitsSigned w32 code → shown ≡ code)
+pub call_comes : (page : PageView) (caller : CallerEnd) (serving : ServingEnd) (s : Settled) (code shown : ℤ) → IsSettledBy page serving.retired caller.retired s → caller.outcome ≡ Done code → (FitsSigned w32 code → shown ≡ code)
     → (stdin : List ℕ) (service : Builtin) → HasCalled page.table stdin caller → HasServed page.table service serving → ComesTo (words_of page) (Call stdin) service (result.Answered shown caller.stdout caller.stderr) s
-call-comes page caller serving s code shown by decided same stdin service called served_end = record {
+call_comes page caller serving s code shown by decided same stdin service called served_end = record {
   settled = by.settled;
   words_are = by.words_are;
   server_honest = ap (λ (e : EndView). e.turned) by.server_is ∙ served_end.honest;
@@ -122,21 +122,21 @@ call-comes page caller serving s code shown by decided same stdin service called
     all name named =
         let is = served name stdin service page caller serving s named called served_end by in
         let gives : code ≡ (is.owed stdin).code = let both = is.call_done.outcome in cc in
-        let small : FitsSigned w32 code = subst (FitsSigned w32) (sym gives) (small-code name stdin (is.owed stdin) (is.is_service stdin)) in
-        let with_code = answered-with name stdin caller.stdout caller.stderr code (done_of caller) (last_view caller.retired) (last_view serving.retired) s is called.owes called.honest by.server_is by.client_is decided refl refl in
+        let small : FitsSigned w32 code = subst (FitsSigned w32) (sym gives) (small_code name stdin (is.owed stdin) (is.is_service stdin)) in
+        let with_code = answered_with name stdin caller.stdout caller.stderr code (done_of caller) (last_view caller.retired) (last_view serving.retired) s is called.owes called.honest by.server_is by.client_is decided refl refl in
         subst (λ (n : ℤ). (answer_of name (Call stdin) ≡ Some (result.Answered n caller.stdout caller.stderr)) × IsAnswered name stdin s) (sym (same small)) with_code
 
 -- a client that handed back a call has called
-pub by-called : (words : PageStart) (page : TableId) (caller : CallerEnd) (serving : ServingEnd) (r : EpochResult) (s : Settled) (done : SideDone) → done ≡ Called caller
+pub by_called : (words : PageStart) (page : TableId) (caller : CallerEnd) (serving : ServingEnd) (r : EpochResult) (s : Settled) (done : SideDone) → done ≡ Called caller
     → ((stdin : List ℕ) (service : Builtin) → HasCalled page stdin caller → HasServed page service serving → ComesTo words (Call stdin) service r s)
     → (guest : Client) (service : Builtin) → ClientHands page guest done → HasServed page service serving → ComesTo words guest service r s
-by-called words page caller serving r s done is comes (Call stdin) service hands served_end = comes stdin service (subst (λ (d : SideDone). CallerHands page stdin d) is hands) served_end
-by-called words page caller serving r s done is comes (Hostile seed stores) service hands served_end = absurd (subst (λ (d : SideDone). ScribblerHands page seed stores d) is hands)
+by_called words page caller serving r s done is comes (Call stdin) service hands served_end = comes stdin service (subst (λ (d : SideDone). CallerHands page stdin d) is hands) served_end
+by_called words page caller serving r s done is comes (Hostile seed stores) service hands served_end = absurd (subst (λ (d : SideDone). ScribblerHands page seed stores d) is hands)
 
 -- what two tasks handed back, and nothing else
-pub two-handed : (page : TableId) (guest : Client) (service : Builtin) (dones rest more : List SideDone) (one other : SideDone) → AreHandedBack page guest service dones → dones ≡ one ∷ rest → rest ≡ other ∷ more
+pub two_handed : (page : TableId) (guest : Client) (service : Builtin) (dones rest more : List SideDone) (one other : SideDone) → AreHandedBack page guest service dones → dones ≡ one ∷ rest → rest ≡ other ∷ more
     → ClientHands page guest one × ServerHands page service other
-two-handed page guest service dones rest more one other handed first second = all more (subst (AreHandedBack page guest service) (first ∙ ap (λ (xs : List SideDone). one ∷ xs) second) handed)
+two_handed page guest service dones rest more one other handed first second = all more (subst (AreHandedBack page guest service) (first ∙ ap (λ (xs : List SideDone). one ∷ xs) second) handed)
   where
     all : (more : List SideDone) → AreHandedBack page guest service (one ∷ other ∷ more) → ClientHands page guest one × ServerHands page service other
     all [] h = h
@@ -145,21 +145,21 @@ two-handed page guest service dones rest more one other handed first second = al
 -- ---- the epochs of a list
 
 -- one client more is served
-pub one-more : (name : List ℕ) (words : PageStart) (number next : ℕ) (clients rest left : List Client) (client : Client) (dones longer : List EpochDone) (e : EpochDone) → rest ≡ client ∷ left → longer ≡ dones ++ e ∷ [] → next ≡ number + 1
+pub one_more : (name : List ℕ) (words : PageStart) (number next : ℕ) (clients rest left : List Client) (client : Client) (dones longer : List EpochDone) (e : EpochDone) → rest ≡ client ∷ left → longer ≡ dones ++ e ∷ [] → next ≡ number + 1
     → IsEpoch name words number client e → ((more : List EpochDone) → AreEpochs name words number rest more → AreEpochs name words 1 clients (dones ++ more))
     → (more : List EpochDone) → AreEpochs name words next left more → AreEpochs name words 1 clients (longer ++ more)
-one-more name words number next clients rest left client dones longer e cut is count epoch goes_on more follow =
+one_more name words number next clients rest left client dones longer e cut is count epoch goes_on more follow =
     subst (AreEpochs name words 1 clients) (sym (ap (λ (xs : List EpochDone). xs ++ more) is ∙ append_assoc dones (e ∷ []) more))
     (goes_on (e ∷ more) (subst (λ (cs : List Client). AreEpochs name words number cs (e ∷ more)) (sym cut) (epoch, subst (λ (n : ℕ). AreEpochs name words n left more) count follow)))
 
 -- no client is left
-pub all-served : (name : List ℕ) (words : PageStart) (number : ℕ) (clients rest : List Client) (dones : List EpochDone) → rest ≡ [] → ((more : List EpochDone) → AreEpochs name words number rest more → AreEpochs name words 1 clients (dones ++ more)) → AreEpochs name words 1 clients dones
-all-served name words number clients rest dones none goes_on =
+pub all_served : (name : List ℕ) (words : PageStart) (number : ℕ) (clients rest : List Client) (dones : List EpochDone) → rest ≡ [] → ((more : List EpochDone) → AreEpochs name words number rest more → AreEpochs name words 1 clients (dones ++ more)) → AreEpochs name words 1 clients dones
+all_served name words number clients rest dones none goes_on =
     subst (AreEpochs name words 1 clients) (append-nil dones) (goes_on [] (subst (λ (cs : List Client). AreEpochs name words number cs []) (sym none) tt))
 
 -- what an epoch came to, with its number
-pub epoch-at : (name : List ℕ) (words : PageStart) (number : ℕ) (client : Client) (service : Builtin) (r : EpochResult) (s : Settled) → IsService name (builtin_owes service) → ComesTo words client service r s → IsEpoch name words number client (record { number = number; result = r; settled = s })
-epoch-at name words number client service r s named comes = record {
+pub epoch_at : (name : List ℕ) (words : PageStart) (number : ℕ) (client : Client) (service : Builtin) (r : EpochResult) (s : Settled) → IsService name (builtin_owes service) → ComesTo words client service r s → IsEpoch name words number client (record { number = number; result = r; settled = s })
+epoch_at name words number client service r s named comes = record {
   number_is = refl;
   result_is = comes.result_is name named;
   settled = comes.settled;

@@ -30,10 +30,10 @@ along_got s (event ∷ events) = along_got (strays s event.op event.taken) event
 abbrev pub LeadsOn : ℕ → ℕ → Side → ℕ → ℕ → Side → Type 0
 LeadsOn seed count start x left now = strays_along now (scribbled x left) ≡ strays_along start (scribbled seed count)
 
-pub leads-more : (seed count : ℕ) (start now next : Side) (x left page word value : ℕ) (field : WordName) (stored : ℕ) → LeadsOn seed count start x (suc left) now
+pub leads_more : (seed count : ℕ) (start now next : Side) (x left page word value : ℕ) (field : WordName) (stored : ℕ) → LeadsOn seed count start x (suc left) now
     → page ≡ next_number x → word ≡ next_number page → value ≡ next_number word → field ≡ field_of word → stored ≡ value
     → next ≡ strays now (Store field stored) 0 → LeadsOn seed count start value left next
-leads-more seed count start now next x left page word value field stored so_far page_is word_is value_is field_is stored_is next_is =
+leads_more seed count start now next x left page word value field stored so_far page_is word_is value_is field_is stored_is next_is =
     let drawn_word : word ≡ next_number (next_number x) = word_is ∙ ap next_number page_is in
     let drawn_value : value ≡ next_number (next_number (next_number x)) = value_is ∙ ap next_number drawn_word in
     let store : strays now (Store field stored) 0 ≡ strays now (Store (field_of (next_number (next_number x))) (next_number (next_number (next_number x)))) 0 =
@@ -50,9 +50,9 @@ pub record IsScribbledSide (seed stores : ℕ) (s : Side) : Type 0 where
   pub got : s.got ≡ []
   pub trail : s.trail ≡ scribbled seed stores ++ retiring Client
 
-pub scribbled-side : (seed stores consumed : ℕ) (given over last : Side) → given.role ≡ Client → given.sent ≡ [] → given.got ≡ [] → over ≡ strays_along (turns given consumed) (scribbled seed stores)
+pub scribbled_side : (seed stores consumed : ℕ) (given over last : Side) → given.role ≡ Client → given.sent ≡ [] → given.got ≡ [] → over ≡ strays_along (turns given consumed) (scribbled seed stores)
     → last ≡ strays (strays over (Store (own_gone over.role) 1) 0) (Store (peer_pending over.role) 1) 0 → IsScribbledSide seed stores last
-scribbled-side seed stores consumed given over last role sent got over_is last_is =
+scribbled_side seed stores consumed given over last role sent got over_is last_is =
     let events = scribbled seed stores in
     let role' : over.role ≡ Client = ap (λ (s : Side). s.role) over_is ∙ along_role (turns given consumed) events ∙ role in
     let end : last ≡ strays_along over (retiring Client) = last_is ∙ (λ i. strays_along over (retiring (role' i))) in

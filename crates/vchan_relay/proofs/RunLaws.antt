@@ -2,7 +2,7 @@
 use Rattle.std.proofs.Common.{◌≡◌, ◌≤◌, ◌<◌, ◌+◌, ℕ, List, [], ◌∷◌, length, false, Option, ◌++◌, option_to_list, refl, sym, subst, ap, ◌∙◌, arith}
 use Rattle.std.specs.List.{AllZip, AllByRecursion as Each}
 use Rattle.std.proofs.lemmas.Bool.{false_from_ne_true}
-use Rattle.list_laws.proofs.Prefixes.{prefix-length}
+use Rattle.list_laws.proofs.Prefixes.{prefix_length}
 use Rattle.atomic_table.specs.Seated.{TableId}
 use Rattle.ring_words.specs.declared.page.Role.TheVariants.{Server, Client}
 use Rattle.end_view.specs.EndView.{EndView}
@@ -104,13 +104,13 @@ begins words room page (next ∷ pages) client (Passed near far joint) (done ∷
 -- the reader got no more than the first client sent
 no_more : (words : PageStart) (room : ℕ) (got : List ℕ) (page : Settled) (pages : List Settled) → IsHonestly words page → AreBehind words room got page.server pages → length got ≤ length page.client.sent
 no_more words room got page [] honest behind =
-    let here = prefix-length page.server.got page.client.sent (both_honest words page honest).left.in_order in
+    let here = prefix_length page.server.got page.client.sent (both_honest words page honest).left.in_order in
     let same = ap length behind.got in
     omega (arith, here, same)
 no_more words room got page (next ∷ pages) honest behind =
     let later = no_more words room got next pages behind.1 behind.2 in
-    let between = prefix-length next.client.sent page.server.got behind.0.order in
-    let here = prefix-length page.server.got page.client.sent (both_honest words page honest).left.in_order in
+    let between = prefix_length next.client.sent page.server.got behind.0.order in
+    let here = prefix_length page.server.got page.client.sent (both_honest words page honest).left.in_order in
     omega (arith, later, between, here)
 
 -- if the server of a page found the end of its stream, it has all that the client sent

@@ -26,8 +26,8 @@ use Rattle.vchan_protocol.specs.History.Core.{op_next, plan_left, made, side_aft
 use Rattle.vchan_core.specs.OneMachine.Phases.{standing, rest, IsIdle}
 use Rattle.vchan_core.specs.Page.StandsFor.{HasPayload}
 use Rattle.vchan_protocol.specs.OneEnd.OneCall.{landed}
-use Rattle.vchan_protocol.proofs.OneEnd.OneCallWay.{landed-length}
-use Rattle.vchan_protocol.proofs.History.EventLaws.{settled-trail}
+use Rattle.vchan_protocol.proofs.OneEnd.OneCallWay.{landed_length}
+use Rattle.vchan_protocol.proofs.History.EventLaws.{settled_trail}
 use Rattle.vchan_rule.specs.Ends.{Agrees}
 use Rattle.vchan_rule.specs.Along.{GoesAlong}
 use Rattle.vchan_rule.proofs.EndLaws.{Inside, inside, plan_is, goes_on, stores_own, after_step, keeps_payload, Stepped}
@@ -93,12 +93,12 @@ module _ (start : ℕ) (m m' : Machine) (payload : List ℕ) (was : Side) (first
   goes : (taken : ℕ) → GoesAlong 1 v buffer (side_after v taken) (landed op taken buffer)
   goes taken =
       let s = step taken in
-      let trail : (side_after v taken).trail ≡ v.trail ++ past (op_next v) taken ∷ [] = settled-trail (made v (op_next v) taken) (after (plan_left v) taken) in
+      let trail : (side_after v taken).trail ≡ v.trail ++ past (op_next v) taken ∷ [] = settled_trail (made v (op_next v) taken) (after (plan_left v) taken) in
       record {
         way = λ was call given start' long w.
             way_on was call given start' v buffer taken long w more None (side_after v taken) (landed op taken buffer) s.answer refl (ap (λ (o : Op). landed o taken buffer) next);
         longer = ap (λ (xs : List PastEvent). length xs) trail ∙ omega (arith, length-append v.trail (past (op_next v) taken ∷ []));
-        long = landed-length op taken buffer;
+        long = landed_length op taken buffer;
         role = s.role_is;
         orders = s.orders_are;
         retired = s.retired_is ∙ ap (λ (o : Op). sets_gone o v.role || v.retired) (sym next) ∙ ap (λ (b : Bool). b || v.retired) (n.quiet v.role);

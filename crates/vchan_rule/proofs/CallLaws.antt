@@ -15,12 +15,12 @@ use Rattle.vchan_protocol.specs.History.Core.{begins, standing_of, plan_left, op
 use Rattle.vchan_protocol.specs.OneEnd.EndingLaw.{notices, has_noticed}
 use Rattle.vchan_protocol.specs.OneEnd.OneCall.{landed, side_along, OnWay, IsOver, IsThen}
 use Rattle.vchan_protocol.proofs.OneEnd.OneCallBytes.{answers_tell}
-use Rattle.vchan_protocol.proofs.OneEnd.OneCallWay.{way_goes_on, landed-length, over_tells}
-use Rattle.vchan_protocol.proofs.Table.Bounds.{ends_call, length-Leads}
+use Rattle.vchan_protocol.proofs.OneEnd.OneCallWay.{way_goes_on, landed_length, over_tells}
+use Rattle.vchan_protocol.proofs.Table.Bounds.{ends_call, length_Leads}
 use Rattle.vchan_protocol.proofs.Table.Counted.{counts_within}
 use Rattle.vchan_protocol.proofs.Honest.LifeTrails.{or_assoc}
-use Rattle.vchan_protocol.proofs.History.EventLaws.{settled-trail}
-use Rattle.vchan_protocol.proofs.OneEnd.EndingSteps.{saw-after}
+use Rattle.vchan_protocol.proofs.History.EventLaws.{settled_trail}
+use Rattle.vchan_protocol.proofs.OneEnd.EndingSteps.{saw_after_lem}
 use Rattle.vchan_core.specs.OneMachine.Phases.{IsIdle, payload_needed, buffer_needed}
 use Rattle.vchan_core.specs.Page.StandsFor.{HasPayload}
 use Rattle.end_view.specs.EndView.{view_of}
@@ -60,7 +60,7 @@ call_over was call payload start e buffer e' buffer' answer i more m =
 pub one_longer : (e : SeatedEnd) (payload buffer : List ℕ) (e' : SeatedEnd) (buffer' : List ℕ) (result : Option Answer) → MakesOne e payload buffer e' buffer' result → length e'.side.trail ≡ length (seen e payload).trail + 1
 one_longer e payload buffer e' buffer' result m =
     let s = seen e payload in
-    let same : e'.side.trail ≡ s.trail ++ past (op_next s) m.0 ∷ [] = ap (λ (z : Side). z.trail) m.1 ∙ settled-trail (made s (op_next s) m.0) (after (plan_left s) m.0) in
+    let same : e'.side.trail ≡ s.trail ++ past (op_next s) m.0 ∷ [] = ap (λ (z : Side). z.trail) m.1 ∙ settled_trail (made s (op_next s) m.0) (after (plan_left s) m.0) in
     ap (λ (xs : List PastEvent). length xs) same ∙ omega (arith, length-append s.trail (past (op_next s) m.0 ∷ []))
 
 pub seen_now : (e : SeatedEnd) (payload : List ℕ) → e.begun ≡ None → seen e payload ≡ e.side
@@ -70,7 +70,7 @@ pub call_on : (was : SeatedEnd) (call : Call) (payload start : List ℕ) (e : Se
     MakesOne e payload buffer e' buffer' None → IsSameEnd e e' → ¬ IsIdle e'.machine → payload_needed e'.machine ≤ payload_needed e.machine → buffer_needed e'.machine ≤ buffer_needed e.machine → e'.begun ≡ None → HasPayload e'.side payload →
     InCalls was call payload start e' buffer'
 call_on was call payload start e buffer e' buffer' i more m same busy out into none has =
-    let long : length buffer' ≡ length buffer = ap (λ (xs : List ℕ). length xs) m.3 ∙ landed-length (op_next (seen e payload)) m.0 buffer in
+    let long : length buffer' ≡ length buffer = ap (λ (xs : List ℕ). length xs) m.3 ∙ landed_length (op_next (seen e payload)) m.0 buffer in
     record {
       same = (same.0 ∙ i.same.0, same.1 ∙ i.same.1, same.2 ∙ i.same.2, same.3 ∙ i.same.3);
       busy = busy;
@@ -84,7 +84,7 @@ call_on was call payload start e buffer e' buffer' i more m same busy out into n
     }
 
 pub made_long : (e : SeatedEnd) (payload buffer : List ℕ) (e' : SeatedEnd) (buffer' : List ℕ) (result : Option Answer) → MakesOne e payload buffer e' buffer' result → length buffer' ≡ length buffer
-made_long e payload buffer e' buffer' result m = ap (λ (xs : List ℕ). length xs) m.3 ∙ landed-length (op_next (seen e payload)) m.0 buffer
+made_long e payload buffer e' buffer' result m = ap (λ (xs : List ℕ). length xs) m.3 ∙ landed_length (op_next (seen e payload)) m.0 buffer
 
 -- the same after more events that give no answer
 pub call_along : (was : SeatedEnd) (call : Call) (payload start : List ℕ) (e : SeatedEnd) (buffer : List ℕ) (e' : SeatedEnd) (buffer' : List ℕ) (count : ℕ) → InCalls was call payload start e buffer → e.begun ≡ None →
@@ -116,7 +116,7 @@ called_saw was e call payload start buffer answer honest may over = (view_after 
 
 -- a call that is over made no more events than it may
 pub over_few : (was : Side) (call : Call) (given start : List ℕ) (s : Side) (buffer : List ℕ) (answer : Answer) → IsOver was call given start s buffer answer → length s.trail ≤ most_events (standing_of was) call
-over_few was call given start s buffer answer over = length-Leads (plan_of (standing_of was) call) s.trail (answers answer) (most_events (standing_of was) call) (ends_call (standing_of was) call) over.trace
+over_few was call given start s buffer answer over = length_Leads (plan_of (standing_of was) call) s.trail (answers answer) (most_events (standing_of was) call) (ends_call (standing_of was) call) over.trace
 
 -- no call may store or load more than the ring holds
 stored_ring : (e : Standing) (call : Call) → stored_most e call ≤ write_size e
@@ -140,7 +140,7 @@ unfolding standing_after
 along_saw s [] = sym (or-false s.saw)
 along_saw s (event ∷ events) =
     along_saw (made s event.op event.taken) events
-    ∙ ap (λ (b : Bool). b || has_noticed (standing_after (standing_of s) event.op) events) (saw-after s event.op event.taken)
+    ∙ ap (λ (b : Bool). b || has_noticed (standing_after (standing_of s) event.op) events) (saw_after_lem s event.op event.taken)
     ∙ or_assoc s.saw (notices (standing_of s) event.op event.taken) (has_noticed (standing_after (standing_of s) event.op) events)
 
 -- a call that is over, with all that its contract states

@@ -22,11 +22,11 @@ use Rattle.vchan_protocol.specs.OneEnd.OneEnd.{Enters}
 use Rattle.vchan_protocol.specs.Honest.Reached.{MayBegin}
 use Rattle.vchan_protocol.specs.OneEnd.OneEndLaw.{OwnLawful}
 use Rattle.vchan_protocol.proofs.OneEnd.OneEndLaws.{own_begun, own_stepped}
-use Rattle.vchan_protocol.proofs.History.EventLaws.{settled-payload, stored_most-payload, OwesNext}
+use Rattle.vchan_protocol.proofs.History.EventLaws.{settled_payload, stored_most_payload, OwesNext}
 use Rattle.vchan_protocol.proofs.Hostile.TurnedSteps.{lies_at_count}
 use Rattle.vchan_protocol.proofs.Always.InvariantSteps.{retired_settled}
-use Rattle.vchan_core.proofs.OneMachine.PhaseLaws.{GoesOn-machine}
-use Rattle.vchan_core.proofs.Page.StepLaws.{in_call, plan_left-is, owed, made_stands, answer_in-rest}
+use Rattle.vchan_core.proofs.OneMachine.PhaseLaws.{GoesOn_machine}
+use Rattle.vchan_core.proofs.Page.StepLaws.{in_call, plan_left_is, owed, made_stands, answer_in_rest}
 use Rattle.vchan_rule.specs.Ends.{seen_by, Agrees, IsPending, Pays, IsSameEnd}
 use Rattle.vchan_rule.specs.Seated.{SeatedEnd}
 
@@ -35,7 +35,7 @@ use Rattle.vchan_rule.specs.Seated.{SeatedEnd}
 -- the bytes that an end stores are those of its payload
 leaves_same : (s : Side) (b : Begun) (source : List ℕ) (op : Op) → length s.payload ≡ payload_of b.call → HasPayload s source → OwesNext s b op → (n : ℕ) → leaves s.payload op n ≡ leaves source op n
 leaves_same s b source (StoreByte word at) pays has owes n =
-    let within : at < length s.payload = omega (arith, owes.1, pays, stored_most-payload (begun_standing s b) b.call) in
+    let within : at < length s.payload = omega (arith, owes.1, pays, stored_most_payload (begun_standing s b) b.call) in
     sym (sym (get_or-take (length s.payload) source at 0 within) ∙ ap (λ (xs : List ℕ). slice_index xs at) has)
 leaves_same s b source (Load word) pays has owes n = refl
 leaves_same s b source (LoadByte word at) pays has owes n = refl
@@ -46,13 +46,13 @@ leaves_same s b source (Swap word value) pays has owes n = refl
 leaves_same s b source Nothing pays has owes n = refl
 
 -- an end after its event: what an answer leaves as it is
-settled-orders : (s : Side) (plan : Plan) → (settled s plan).orders ≡ s.orders
-settled-orders s (answers answer) = refl
-settled-orders s (does op next) = refl
+settled_orders : (s : Side) (plan : Plan) → (settled s plan).orders ≡ s.orders
+settled_orders s (answers answer) = refl
+settled_orders s (does op next) = refl
 
-settled-role : (s : Side) (plan : Plan) → (settled s plan).role ≡ s.role
-settled-role s (answers answer) = refl
-settled-role s (does op next) = refl
+settled_role : (s : Side) (plan : Plan) → (settled s plan).role ≡ s.role
+settled_role s (answers answer) = refl
+settled_role s (does op next) = refl
 
 -- the machine stands for the end after that has begun the call
 begins_stands : (call : Call) (m : Machine) (s : Side) (payload : List ℕ) → IsPending call m s → length payload ≡ payload_of call → IsMachineOf (begins s call payload) m
@@ -89,10 +89,10 @@ inside start (Some call) m v payload g pays bytes =
 
 -- what the machine does next is what the end does next
 pub plan_is : (start : ℕ) (m : Machine) (v s : Side) (payload : List ℕ) → Inside start m v payload s → ¬ IsIdle m → plan_left s ≡ rest m
-plan_is start m v s payload h busy = plan_left-is s m (in_call s m h.stands busy)
+plan_is start m v s payload h busy = plan_left_is s m (in_call s m h.stands busy)
 
 pub goes_on : (start : ℕ) (m : Machine) (v s : Side) (payload : List ℕ) → Inside start m v payload s → ¬ IsIdle m → GoesOn (plan_left s)
-goes_on start m v s payload h busy = subst GoesOn (sym (plan_is start m v s payload h busy)) (GoesOn-machine m busy)
+goes_on start m v s payload h busy = subst GoesOn (sym (plan_is start m v s payload h busy)) (GoesOn_machine m busy)
 
 pub stores_own : (start : ℕ) (m : Machine) (v s : Side) (payload : List ℕ) → Inside start m v payload s → ¬ IsIdle m → (op : Op) → op ≡ next_op (rest m) → (n : ℕ) → leaves s.payload op n ≡ leaves payload op n
 stores_own start m v s payload h busy op is n =
@@ -117,9 +117,9 @@ after_step start m m' v s payload result taken h busy leads idle stands =
         own = own_stepped start s taken h.own (goes_on start m v s payload h busy);
         stands = subst (λ (p : Plan). IsMachineOf (settled (made s (next_op p) taken) (after p taken)) m') (sym plan) (made_stands s m m' result taken h.stands busy leads idle stands);
       };
-      answer = sym (answer_in-rest m' result idle) ∙ ap answer_in leads ∙ ap (λ (p : Plan). answer_in (after p taken)) (sym plan);
-      orders_are = settled-orders (made s (op_next s) taken) (after (plan_left s) taken);
-      role_is = settled-role (made s (op_next s) taken) (after (plan_left s) taken);
+      answer = sym (answer_in_rest m' result idle) ∙ ap answer_in leads ∙ ap (λ (p : Plan). answer_in (after p taken)) (sym plan);
+      orders_are = settled_orders (made s (op_next s) taken) (after (plan_left s) taken);
+      role_is = settled_role (made s (op_next s) taken) (after (plan_left s) taken);
       retired_is = retired_settled (made s (op_next s) taken) (after (plan_left s) taken);
     }
 
@@ -129,11 +129,11 @@ machine_orders start m v s payload h = ap (λ (e : Standing). e.orders) h.stands
 
 pub keeps_payload : (s : Side) (taken : ℕ) (source : List ℕ) → HasPayload s source → HasPayload (side_after s taken) source
 keeps_payload s taken source has =
-    subst (λ (xs : List ℕ). take (length xs) source ≡ xs) (sym (settled-payload (made s (op_next s) taken) (after (plan_left s) taken))) has
+    subst (λ (xs : List ℕ). take (length xs) source ≡ xs) (sym (settled_payload (made s (op_next s) taken) (after (plan_left s) taken))) has
 
 pub lies : (start : ℕ) (m : Machine) (v s : Side) (payload : List ℕ) → Inside start m v payload s → ¬ IsIdle m → LiesAtCount s (op_next s)
 lies start m v s payload h busy = lies_at_count s h.own.call (goes_on start m v s payload h busy)
 
 -- the same end of the same page, over two calls
-pub same-end-then : (a b c : SeatedEnd) → IsSameEnd a b → IsSameEnd b c → IsSameEnd a c
-same-end-then a b c one two = (two.0 ∙ one.0, two.1 ∙ one.1, two.2 ∙ one.2, two.3 ∙ one.3)
+pub same_end_then : (a b c : SeatedEnd) → IsSameEnd a b → IsSameEnd b c → IsSameEnd a c
+same_end_then a b c one two = (two.0 ∙ one.0, two.1 ∙ one.1, two.2 ∙ one.2, two.3 ∙ one.3)

@@ -12,32 +12,32 @@ use Rattle.call_broker.specs.declared.event.Event.TheVariants.{Trigger, Terminat
 use Rattle.call_broker.specs.Domains.{Domains, target_of, pages_of}
 use Rattle.call_broker.specs.Pair.{Ordered, state_after}
 use Rattle.call_broker.specs.Journal.{IsDecidedOn, events}
-use Rattle.call_broker.proofs.StateLaws.{IsDecidedAt, decided-first, decided-later, names_to, call_count, call_sum, call_sum-append, calls-at_most}
+use Rattle.call_broker.proofs.StateLaws.{IsDecidedAt, decided_first, decided_later, names_to, call_count, call_sum, call_sum_append, calls_at_most}
 use Rattle.scenario_file.specs.Scenario.{Plan as Scenario, domain_of, domain_named}
 use Rattle.scenario_file.specs.declared.scenario.CallPlan.{CallPlan}
 use Rattle.task_duties.specs.Agent.Saying.{Asking, asking_of}
-use Rattle.task_duties.proofs.Elements.{Has, tally, tally-append}
+use Rattle.task_duties.proofs.Elements.{Has, tally, tally_append}
 use Rattle.task_duties.proofs.JournalLaw.{asked_in}
 use Rattle.run_laws.specs.Laid.{hub_of, calls_from, calls_between, is_from_to, pages_between}
 use Rattle.run_laws.specs.Run.{Run, IsRun, IsHonest}
 use Rattle.run_laws.proofs.Scenarios.Facts.{facts, IsCall}
-use Rattle.run_laws.proofs.Scenarios.Names.{target-is}
-use Rattle.run_laws.proofs.Domains.Planned.{asked-planned}
-use Rattle.run_laws.proofs.Domains.PortsLaw.{pages-are}
+use Rattle.run_laws.proofs.Scenarios.Names.{target_is_lem}
+use Rattle.run_laws.proofs.Domains.Planned.{asked_planned}
+use Rattle.run_laws.proofs.Domains.PortsLaw.{pages_are}
 
-pub decided-at : (hub : Domains) (done : List Event) (journal : List Entry) (x : Entry) → IsDecidedOn hub done journal → Has journal x → IsDecidedAt hub done journal x
-decided-at hub done [] x h there = absurd there
-decided-at hub done (y ∷ journal) x h (inl here) = subst (λ z. IsDecidedAt hub done (y ∷ journal) z) here (decided-first hub done y journal h)
-decided-at hub done (y ∷ journal) x h (inr later) = decided-later hub done y journal x (decided-at hub (done ++ y.event ∷ []) journal x h.1 later)
+pub decided_at : (hub : Domains) (done : List Event) (journal : List Entry) (x : Entry) → IsDecidedOn hub done journal → Has journal x → IsDecidedAt hub done journal x
+decided_at hub done [] x h there = absurd there
+decided_at hub done (y ∷ journal) x h (inl here) = subst (λ z. IsDecidedAt hub done (y ∷ journal) z) here (decided_first hub done y journal h)
+decided_at hub done (y ∷ journal) x h (inr later) = decided_later hub done y journal x (decided_at hub (done ++ y.event ∷ []) journal x h.1 later)
 
 -- ---- the triggers to a domain, in the journal and in the plan
 
 abbrev pub asks_to : Domains → ℕ → Asking → ℕ
 asks_to hub t a = if names_to t (target_of hub a.target) then 1 else 0
 
-journal-sum : (hub : Domains) (f t : ℕ) (journal : List Entry) → call_sum hub f t (events journal) ≡ tally (asks_to hub t) (asked_in journal f)
-journal-sum hub f t [] = refl
-journal-sum hub f t (x ∷ journal) = by_event x.event refl (journal-sum hub f t journal)
+journal_sum : (hub : Domains) (f t : ℕ) (journal : List Entry) → call_sum hub f t (events journal) ≡ tally (asks_to hub t) (asked_in journal f)
+journal_sum hub f t [] = refl
+journal_sum hub f t (x ∷ journal) = by_event x.event refl (journal_sum hub f t journal)
   where
     by_event : (e : Event) → x.event ≡ e → call_sum hub f t (events journal) ≡ tally (asks_to hub t) (asked_in journal f) → call_sum hub f t (events (x ∷ journal)) ≡ tally (asks_to hub t) (asked_in (x ∷ journal) f)
     by_event (Trigger from target service ident) is more = by_test (from == f) refl more
@@ -48,20 +48,20 @@ journal-sum hub f t (x ∷ journal) = by_event x.event refl (journal-sum hub f t
     by_event (Terminated from other port) is more = rw is (omega (arith, more))
     by_event (Dropped domain) is more = rw is (omega (arith, more))
 
-prefix-sum : (g : Asking → ℕ) (xs ys : List Asking) → IsPrefixOf xs ys → tally g xs ≤ tally g ys
-prefix-sum g xs ys p = let both = tally-append g xs p.0 in let all : tally g (xs ++ p.0) ≡ tally g ys = ap (tally g) p.1 in omega (arith, both, all)
+prefix_sum : (g : Asking → ℕ) (xs ys : List Asking) → IsPrefixOf xs ys → tally g xs ≤ tally g ys
+prefix_sum g xs ys p = let both = tally_append g xs p.0 in let all : tally g (xs ++ p.0) ≡ tally g ys = ap (tally g) p.1 in omega (arith, both, all)
 
-names-same : (t : ℕ) (o : Option ℕ) → names_to t o ≡ option_map_or (λ d. d == t) o false
-names-same t None = refl
-names-same t (Some to) = refl
+names_same : (t : ℕ) (o : Option ℕ) → names_to t o ≡ option_map_or (λ d. d == t) o false
+names_same t None = refl
+names_same t (Some to) = refl
 
-plan-sum : (s : Scenario) (d t : ℕ) (calls : List CallPlan) → Each (IsCall s) calls
+plan_sum : (s : Scenario) (d t : ℕ) (calls : List CallPlan) → Each (IsCall s) calls
     → tally (asks_to (hub_of s) t) (map asking_of (filter (λ call. call.from == d) calls)) ≡ length (filter (is_from_to s d t) calls)
-plan-sum s d t [] each = refl
-plan-sum s d t (c ∷ calls) each = by_from (c.from == d) refl (plan-sum s d t calls each.1)
+plan_sum s d t [] each = refl
+plan_sum s d t (c ∷ calls) each = by_from (c.from == d) refl (plan_sum s d t calls each.1)
   where
     named : names_to t (target_of (hub_of s) c.to) ≡ option_map_or (λ x. x == t) (domain_named s c.to) false
-    named = ap (names_to t) (target-is s c.to each.0.to) ∙ names-same t (domain_named s c.to)
+    named = ap (names_to t) (target_is_lem s c.to each.0.to) ∙ names_same t (domain_named s c.to)
 
     by_from : (b : Bool) → (c.from == d) ≡ b → tally (asks_to (hub_of s) t) (map asking_of (filter (λ call. call.from == d) calls)) ≡ length (filter (is_from_to s d t) calls)
         → tally (asks_to (hub_of s) t) (map asking_of (if b then c ∷ filter (λ call. call.from == d) calls else filter (λ call. call.from == d) calls))
@@ -76,22 +76,22 @@ plan-sum s d t (c ∷ calls) each = by_from (c.from == d) refl (plan-sum s d t c
 
 -- ---- a trigger finds a page
 
-pub not-spent : (s : Scenario) (run : Run) (h : IsRun s run) (d : ℕ) (honest : IsHonest s d) (t : ℕ) → d ≢ t → is_some (domain_of s t) ≡ true → (x : Entry) (target service ident : List ℕ)
+pub not_spent : (s : Scenario) (run : Run) (h : IsRun s run) (d : ℕ) (honest : IsHonest s d) (t : ℕ) → d ≢ t → is_some (domain_of s t) ≡ true → (x : Entry) (target service ident : List ℕ)
     → x.event ≡ Trigger d target service ident → target_of (hub_of s) target ≡ Some t → (at : IsDecidedAt (hub_of s) [] run.journal x)
     → (state_after (hub_of s) at.before (Ordered d t)).calls < pages_of (hub_of s) d t
-not-spent s run h d honest t apart there x target service ident event named at =
-    let calls = calls-at_most (hub_of s) d t at.before in
+not_spent s run h d honest t apart there x target service ident event named at =
+    let calls = calls_at_most (hub_of s) d t at.before in
     let dd : (d == d) ≡ true = grind (arith, nat_tests) in
     let tt' : (t == t) ≡ true = grind (arith, nat_tests) in
     let one : call_count (hub_of s) d t x.event ≡ 1 = rw (event, dd, named, tt') refl in
-    let split = call_sum-append (hub_of s) d t at.before (x.event ∷ at.rest) in
+    let split = call_sum_append (hub_of s) d t at.before (x.event ∷ at.rest) in
     let all : call_sum (hub_of s) d t (events run.journal) ≡ call_sum (hub_of s) d t (at.before ++ x.event ∷ at.rest) = ap (call_sum (hub_of s) d t) at.all in
-    let asked = journal-sum (hub_of s) d t run.journal in
-    let prefix = prefix-sum (asks_to (hub_of s) t) (asked_in run.journal d) (map asking_of (calls_from s d)) (asked-planned s run h d honest) in
-    let plan = plan-sum s d t s.calls (facts s run h).calls in
+    let asked = journal_sum (hub_of s) d t run.journal in
+    let prefix = prefix_sum (asks_to (hub_of s) t) (asked_in run.journal d) (map asking_of (calls_from s d)) (asked_planned s run h d honest) in
+    let plan = plan_sum s d t s.calls (facts s run h).calls in
     let count : length (filter (is_from_to s d t) s.calls) ≡ calls_between s d t = length-filter (is_from_to s d t) s.calls in
     let other : (d == t) ≡ false = grind (arith, nat_tests) in
     let plain = honest.honest in
     let between : pages_between s d t ≡ calls_between s d t = rw (other, plain) refl in
-    let pages = pages-are s d t honest.there there in
+    let pages = pages_are s d t honest.there there in
     omega (arith, calls, one, split, all, asked, prefix, plan, count, between, pages)

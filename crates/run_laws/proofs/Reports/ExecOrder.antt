@@ -5,7 +5,7 @@ use Rattle.std.proofs.lemmas.Bool.Decides.{nat_tests}
 use Rattle.std.proofs.lemmas.List.Sorted.{IsPermutation-refl, IsPermutation-cons, IsPermutation-trans, IsPermutation-middle, Contains-permutation}
 use Rattle.std.specs.List.{AllByRecursion as Each}
 use Rattle.std.proofs.lemmas.Bool.{or_right}
-use Rattle.task_duties.proofs.Elements.{has-from, contains-from, each-at, each-of}
+use Rattle.task_duties.proofs.Elements.{has_from, contains_from, each_at, each_of}
 use Rattle.run_laws.specs.Lawful.{ExecAt, comes_before}
 use Rattle.run_laws.proofs.Scenarios.Calls.{OrderedBy}
 
@@ -31,11 +31,11 @@ back a b (inr h) = by_rest h.0 h.1
         let l : nat_lt a.port b.port ≡ true = grind (arith, nat_tests, p) in
         rw (e, k, l) (or_right (nat_lt a.from b.from) _ (or_right (nat_lt a.to b.to) true refl))
 
-before-trans : (a b c : ExecAt) → IsBefore a b → IsBefore b c → IsBefore a c
-before-trans a b c (inl x) (inl y) = inl (omega (arith, x, y))
-before-trans a b c (inl x) (inr y) = inl (let f = y.0 in omega (arith, x, f))
-before-trans a b c (inr x) (inl y) = inl (let f = x.0 in omega (arith, y, f))
-before-trans a b c (inr x) (inr y) = by_rest (x.0 ∙ y.0) x.1 y.1
+before_trans : (a b c : ExecAt) → IsBefore a b → IsBefore b c → IsBefore a c
+before_trans a b c (inl x) (inl y) = inl (omega (arith, x, y))
+before_trans a b c (inl x) (inr y) = inl (let f = y.0 in omega (arith, x, f))
+before_trans a b c (inr x) (inl y) = inl (let f = x.0 in omega (arith, y, f))
+before_trans a b c (inr x) (inr y) = by_rest (x.0 ∙ y.0) x.1 y.1
   where
     by_rest : a.from ≡ c.from → (a.to < b.to) ⊎ ((a.to ≡ b.to) × (a.port < b.port)) → (b.to < c.to) ⊎ ((b.to ≡ c.to) × (b.port < c.port)) → IsBefore a c
     by_rest f (inl u) (inl v) = inr (f, inl (omega (arith, u, v)))
@@ -79,9 +79,9 @@ pub record IsSortedFrom (xs : List ExecAt) : Type 0 where
   pub permuted : IsPermutation list xs
   pub ordered : OrderedBy IsBefore list
 
-each-after : (a b : ExecAt) → IsBefore a b → (xs : List ExecAt) → Each (IsBefore b) xs → Each (IsBefore a) xs
-each-after a b h [] each = tt
-each-after a b h (x ∷ xs) each = (before-trans a b x h each.0, each-after a b h xs each.1)
+each_after : (a b : ExecAt) → IsBefore a b → (xs : List ExecAt) → Each (IsBefore b) xs → Each (IsBefore a) xs
+each_after a b h [] each = tt
+each_after a b h (x ∷ xs) each = (before_trans a b x h each.0, each_after a b h xs each.1)
 
 -- an Exec put among others that are in order: what stands before all of these stands before the new list if it stands before the new one
 pub record IsInserted (x : ExecAt) (ys : List ExecAt) : Type 0 where
@@ -98,7 +98,7 @@ insert x (y ∷ ys) apart order' = by_order (total x y apart.0) (insert x ys apa
     by_order (inl h) more = record {
       list = x ∷ y ∷ ys;
       permuted = IsPermutation-refl (x ∷ y ∷ ys);
-      ordered = ((h, each-after x y h ys order'.0), order');
+      ordered = ((h, each_after x y h ys order'.0), order');
       all = λ a k each. (k, each);
     }
     by_order (inr h) more = record {
@@ -108,32 +108,32 @@ insert x (y ∷ ys) apart order' = by_order (total x y apart.0) (insert x ys apa
       all = λ a k each. (each.0, more.all a k each.1);
     }
 
-pub IsPermutation-each : (P : ExecAt → Type 0) (xs ys : List ExecAt) → IsPermutation xs ys → Each P ys → Each P xs
-IsPermutation-each P xs ys p each = each-of P xs (λ x there. each-at P ys x each (has-from ys x (Contains-permutation xs ys x p (contains-from xs x there))))
+pub IsPermutation_each : (P : ExecAt → Type 0) (xs ys : List ExecAt) → IsPermutation xs ys → Each P ys → Each P xs
+IsPermutation_each P xs ys p each = each_of P xs (λ x there. each_at P ys x each (has_from ys x (Contains-permutation xs ys x p (contains_from xs x there))))
 
 pub sorted : (xs : List ExecAt) → OrderedBy IsApart xs → IsSortedFrom xs
 sorted [] apart = record { list = []; permuted = IsPermutation-refl []; ordered = tt }
 sorted (x ∷ xs) apart =
     let more = sorted xs apart.1 in
-    let i = insert x more.list (IsPermutation-each (IsApart x) more.list xs more.permuted apart.0) more.ordered in
+    let i = insert x more.list (IsPermutation_each (IsApart x) more.list xs more.permuted apart.0) more.ordered in
     record { list = i.list; permuted = IsPermutation-trans i.list (x ∷ more.list) (x ∷ xs) i.permuted (IsPermutation-cons x more.list xs more.permuted); ordered = i.ordered }
 
-each-index : {A : Type 0} (P : A → Type 0) (xs : List A) (k : ℕ) (d : A) → k < length xs → Each P xs → P (slice_index_or xs k d)
-each-index P [] k d less each = absurd (omega (arith, less))
-each-index P (x ∷ xs) zero d less each = each.0
-each-index P (x ∷ xs) (suc k) d less each = each-index P xs k d (omega (arith, less)) each.1
+each_index : {A : Type 0} (P : A → Type 0) (xs : List A) (k : ℕ) (d : A) → k < length xs → Each P xs → P (slice_index_or xs k d)
+each_index P [] k d less each = absurd (omega (arith, less))
+each_index P (x ∷ xs) zero d less each = each.0
+each_index P (x ∷ xs) (suc k) d less each = each_index P xs k d (omega (arith, less)) each.1
 
-pub all-pairs : {A : Type 0} (R : A → A → Type 0) (xs : List A) → OrderedBy R xs → AllPairs R xs
-all-pairs R [] order' i j d less small = absurd (omega (arith, small))
-all-pairs R (x ∷ xs) order' zero zero d less small = absurd (omega (arith, less))
-all-pairs R (x ∷ xs) order' zero (suc j) d less small = each-index (R x) xs j d (omega (arith, small)) order'.0
-all-pairs R (x ∷ xs) order' (suc i) zero d less small = absurd (omega (arith, less))
-all-pairs R (x ∷ xs) order' (suc i) (suc j) d less small = all-pairs R xs order'.1 i j d (omega (arith, less)) (omega (arith, small))
+pub all_pairs : {A : Type 0} (R : A → A → Type 0) (xs : List A) → OrderedBy R xs → AllPairs R xs
+all_pairs R [] order' i j d less small = absurd (omega (arith, small))
+all_pairs R (x ∷ xs) order' zero zero d less small = absurd (omega (arith, less))
+all_pairs R (x ∷ xs) order' zero (suc j) d less small = each_index (R x) xs j d (omega (arith, small)) order'.0
+all_pairs R (x ∷ xs) order' (suc i) zero d less small = absurd (omega (arith, less))
+all_pairs R (x ∷ xs) order' (suc i) (suc j) d less small = all_pairs R xs order'.1 i j d (omega (arith, less)) (omega (arith, small))
 
-each-back : (a : ExecAt) (xs : List ExecAt) → Each (IsBefore a) xs → Each (λ b. comes_before a b ≡ true) xs
-each-back a [] each = tt
-each-back a (x ∷ xs) each = (back a x each.0, each-back a xs each.1)
+each_back : (a : ExecAt) (xs : List ExecAt) → Each (IsBefore a) xs → Each (λ b. comes_before a b ≡ true) xs
+each_back a [] each = tt
+each_back a (x ∷ xs) each = (back a x each.0, each_back a xs each.1)
 
-pub tests-of : (xs : List ExecAt) → OrderedBy IsBefore xs → OrderedBy (λ a b. comes_before a b ≡ true) xs
-tests-of [] order' = tt
-tests-of (x ∷ xs) order' = (each-back x xs order'.0, tests-of xs order'.1)
+pub tests_of : (xs : List ExecAt) → OrderedBy IsBefore xs → OrderedBy (λ a b. comes_before a b ≡ true) xs
+tests_of [] order' = tt
+tests_of (x ∷ xs) order' = (each_back x xs order'.0, tests_of xs order'.1)

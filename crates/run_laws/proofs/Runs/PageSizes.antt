@@ -3,10 +3,10 @@ use Rattle.std.proofs.Common.{◌≤◌, [], arith}
 use Rattle.atomic_table.specs.Seated.{TableId}
 use Rattle.ring_words.specs.declared.order.Orders.{Orders}
 use Rattle.ring_words.specs.Page.{word_count}
-use Rattle.ring_words.proofs.RingLaws.{size-within}
+use Rattle.ring_words.proofs.RingLaws.{size_within}
 
-pub few-words : (orders : Orders) → word_count orders ≤ 2097166
-few-words orders = omega (arith, (size-within orders.left).1, (size-within orders.right).1)
+pub few_words : (orders : Orders) → word_count orders ≤ 2097166
+few_words orders = omega (arith, (size_within orders.left).1, (size_within orders.right).1)
 
 -- which table a page is doesn't matter to the laws
 unfoldable pub some_page : TableId

@@ -21,7 +21,7 @@ use Rattle.task_duties.specs.declared.done.ControlEnd.TheVariants.{Drained}
 use Rattle.task_duties.specs.Broker.Owes.{BrokerOwes}
 use Rattle.run_laws.specs.Laid.{BeganAsSaid, hub_of, awaited_by, agent_plan, server_of, client_of}
 use Rattle.run_laws.specs.Run.{Run, IsRun, IsHonest, end_of, broker_end}
-use Rattle.run_laws.proofs.Runs.PageSizes.{few-words, some_page}
+use Rattle.run_laws.proofs.Runs.PageSizes.{few_words, some_page}
 
 unfoldable pub tiny : Orders → Scenario
 tiny orders = record { control = orders; payload = orders; start = 0; domains = record { name = codes "a"; hostile = None; ports = 4; version = 3 } ∷ []; calls = [] }
@@ -53,9 +53,9 @@ tiny_run orders = record {
   control = λ d. Drained;
 }
 
-honest-page : (orders : Orders) (place : PagePlace) → IsHonestPage (over Server true (Some AllRead) true) (over Client false None false)
+honest_page : (orders : Orders) (place : PagePlace) → IsHonestPage (over Server true (Some AllRead) true) (over Client false None false)
 unfolding over
-honest-page orders place = record {
+honest_page orders place = record {
   left = record { in_order = ([], refl); whole = λ e. refl; over = λ e. refl };
   right = record { in_order = ([], refl); whole = λ e. refl; over = λ e. cc };
   not_both = λ a b. cc;
@@ -71,7 +71,7 @@ settled orders place = record {
   one_page = refl;
   server_done = record { idle = refl; shut = λ e. refl; told = λ e. refl };
   client_done = record { idle = refl; shut = λ e. refl; told = λ e. refl };
-  honest = λ a b. honest-page orders place;
+  honest = λ a b. honest_page orders place;
   left = λ e. cc;
   right = λ e. cc;
 }
@@ -81,17 +81,17 @@ unfolding tiny tiny_run
 begun orders (Control d) = record { orders = refl; start = refl }
 begun orders (Payload from to port) = record { orders = refl; start = refl }
 
-none-hostile : (orders : Orders) (d : ℕ) → hostile_at (tiny orders) d ≡ false
+none_hostile : (orders : Orders) (d : ℕ) → hostile_at (tiny orders) d ≡ false
 unfolding tiny
-none-hostile orders zero = refl
-none-hostile orders (suc zero) = refl
-none-hostile orders (suc (suc d)) = refl
+none_hostile orders zero = refl
+none_hostile orders (suc zero) = refl
+none_hostile orders (suc (suc d)) = refl
 
-only-one : (orders : Orders) (d : ℕ) → is_domain (hub_of (tiny orders)) d ≡ true → d ≡ 1
+only_one : (orders : Orders) (d : ℕ) → is_domain (hub_of (tiny orders)) d ≡ true → d ≡ 1
 unfolding tiny
-only-one orders zero h = cc
-only-one orders (suc zero) h = refl
-only-one orders (suc (suc d)) h = let big : nat_le (suc (suc d)) 1 ≡ false = grind (arith, nat_tests) in let one : nat_le 1 (suc (suc d)) ≡ true = grind (arith, nat_tests) in let none = rw (one, big) at h in cc
+only_one orders zero h = cc
+only_one orders (suc zero) h = refl
+only_one orders (suc (suc d)) h = let big : nat_le (suc (suc d)) 1 ≡ false = grind (arith, nat_tests) in let one : nat_le 1 (suc (suc d)) ≡ true = grind (arith, nat_tests) in let none = rw (one, big) at h in cc
 
 scenario : (orders : Orders) → IsScenario (tiny orders)
 unfolding tiny
@@ -103,7 +103,7 @@ scenario orders = record {
   calls_fit = All-from_recursion (CallFits (tiny orders).domains) [] tt;
   rising = tt;
   stdin = omega arith;
-  words = omega (arith, few-words orders);
+  words = omega (arith, few_words orders);
 }
 
 broker : (orders : Orders) → BrokerOwes (hub_of (tiny orders)) (awaited_by (tiny orders)) [] (broker_end (tiny_run orders))
@@ -117,7 +117,7 @@ broker orders = record {
   says = λ d there. record { each = tt; whole = inl (refl, refl) };
   from_journal = λ d there. ([], IsPermutation-refl []);
   exec_first = λ f t port ident there h. absurd (omega (arith, h.1));
-  settled = λ d there kept. let one = only-one orders d there in rw one (omega arith);
+  settled = λ d there kept. let one = only_one orders d there in rw one (omega arith);
   all_said = λ d there kept some. IsPermutation-refl [];
 }
 
@@ -144,9 +144,9 @@ there_is_a_run orders = record {
   scenario = scenario orders;
   settled = λ place there. settled orders place;
   begun = λ place there. begun orders place;
-  server_turned = λ place there. sym (none-hostile orders (server_of place));
-  client_turned = λ place there. sym (none-hostile orders (client_of place));
+  server_turned = λ place there. sym (none_hostile orders (server_of place));
+  client_turned = λ place there. sym (none_hostile orders (client_of place));
   broker = broker orders;
   agent = agent orders;
-  hostile = λ d bad. let fine = none-hostile orders d in let both : false ≡ true = sym fine ∙ bad in cc;
+  hostile = λ d bad. let fine = none_hostile orders d in let both : false ≡ true = sym fine ∙ bad in cc;
 }

@@ -26,12 +26,12 @@ use Rattle.scenario_file.specs.declared.scenario.CallPlan.{CallPlan}
 use Rattle.task_duties.specs.Words.{ident_of}
 use Rattle.task_duties.specs.Hearing.{to_agent, to_broker, IsSaid, hears, hears_on}
 use Rattle.std.proofs.lemmas.List.{append-nil}
-use Rattle.list_laws.proofs.Tests.{same-bytes}
+use Rattle.list_laws.proofs.Tests.{same_bytes}
 use Rattle.qrexec_frame.specs.declared.channel.Channel.TheVariants.{Control as OnControl}
 use Rattle.qrexec_frame.specs.Grammar.{Fault}
 use Rattle.qrexec_frame.specs.Fronts.{front, reading}
 use Rattle.qrexec_frame.specs.Streams.{Placed, Ending}
-use Rattle.qrexec_frame.proofs.StreamLaws.{reads-all}
+use Rattle.qrexec_frame.proofs.StreamLaws.{reads_all}
 use Rattle.qrexec_frame.proofs.GrammarLaws.{is_prefix_code}
 use Rattle.qrexec_frame.proofs.WrittenLaws.{is_read_again}
 use Rattle.end_view.specs.Settled.{Settled, IsSettled}
@@ -41,19 +41,19 @@ use Rattle.task_duties.specs.Agent.Owes.{AgentOwes, ReportsCall}
 use Rattle.task_duties.specs.declared.done.CallEnd.TheVariants.{Refused as WasRefused}
 use Rattle.task_duties.specs.declared.done.ControlEnd.TheVariants.{Drained}
 use Rattle.task_duties.specs.Broker.Owes.{BrokerOwes}
-use Rattle.task_duties.proofs.ControlLaw.{all-heard, agent-on_control, broker-on_control, the_messages}
-use Rattle.task_duties.proofs.Elements.{Has, has-from}
+use Rattle.task_duties.proofs.ControlLaw.{all_heard, agent_on_control, broker_on_control, the_messages}
+use Rattle.task_duties.proofs.Elements.{Has, has_from}
 use Rattle.task_duties.specs.declared.place.PagePlace.{PagePlace}
 use Rattle.task_duties.specs.declared.place.PagePlace.TheVariants.{Control, Payload}
 use Rattle.run_laws.specs.Laid.{BeganAsSaid, hub_of, awaited_by, agent_plan, server_of, client_of}
 use Rattle.run_laws.specs.Run.{Run, IsRun, IsHonest, end_of, broker_end}
-use Rattle.run_laws.proofs.Runs.PageSizes.{few-words, some_page}
+use Rattle.run_laws.proofs.Runs.PageSizes.{few_words, some_page}
 
 abbrev pub ident : List ℕ
-ident = codes "call-1"
+ident = codes "call_1"
 
-pub ident-is : ident_of 1 ≡ ident
-ident-is = let one : decimal 1 ≡ 49 ∷ [] = decimal_digit 1 (omega arith) in rw one refl
+pub ident_is : ident_of 1 ≡ ident
+ident_is = let one : decimal 1 ≡ 49 ∷ [] = decimal_digit 1 (omega arith) in rw one refl
 
 abbrev asked : Message
 asked = m.Trigger3 (codes "nobody") ident (codes "echo")
@@ -65,53 +65,53 @@ abbrev pub no_zero : List ℕ → Bool
 no_zero [] = true
 no_zero (b ∷ text) = if b == 0 then false else no_zero text
 
-nul-at : (text : List ℕ) → no_zero text ≡ true → Has text 0 → ⊥
-nul-at [] h there = absurd there
-nul-at (b ∷ text) h there = by_test (b == 0) refl h there (λ k there'. nul-at text k there')
+nul_at : (text : List ℕ) → no_zero text ≡ true → Has text 0 → ⊥
+nul_at [] h there = absurd there
+nul_at (b ∷ text) h there = by_test (b == 0) refl h there (λ k there'. nul_at text k there')
   where
     by_test : (c : Bool) → (b == 0) ≡ c → (if c then false else no_zero text) ≡ true → (b ≡ 0) ⊎ Has text 0 → (no_zero text ≡ true → Has text 0 → ⊥) → ⊥
     by_test true is k t' more = cc
     by_test false is k (inl e) more = let bad : (b == 0) ≡ true = grind (arith, nat_tests, e) in cc
     by_test false is k (inr later) more = more k later
 
-pub no-nul : (text : List ℕ) → no_zero text ≡ true → HasNoNul text
-no-nul text h = record { none = λ c. nul-at text h (has-from text 0 c) }
+pub no_nul_lem : (text : List ℕ) → no_zero text ≡ true → HasNoNul text
+no_nul_lem text h = record { none = λ c. nul_at text h (has_from text 0 c) }
 
-asked-spelled : IsSpellable asked
-asked-spelled = ((record { within = omega arith; no_nul = no-nul (codes "nobody") refl }, record { within = omega arith; no_nul = no-nul ident refl }, record { within = omega arith; no_nul = no-nul (codes "echo") refl }), tt)
+asked_spelled : IsSpellable asked
+asked_spelled = ((record { within = omega arith; no_nul = no_nul_lem (codes "nobody") refl }, record { within = omega arith; no_nul = no_nul_lem ident refl }, record { within = omega arith; no_nul = no_nul_lem (codes "echo") refl }), tt)
 
-answer-spelled : IsSpellable answer
-answer-spelled = (record { within = omega arith; no_nul = no-nul ident refl }, tt)
+answer_spelled : IsSpellable answer
+answer_spelled = (record { within = omega arith; no_nul = no_nul_lem ident refl }, tt)
 
 unfoldable pub up : List ℕ
-up = flat_map written (m.Hello 3 ∷ m.Trigger3 (codes "nobody") (codes "call-1") (codes "echo") ∷ [])
+up = flat_map written (m.Hello 3 ∷ m.Trigger3 (codes "nobody") (codes "call_1") (codes "echo") ∷ [])
 
 unfoldable pub down : List ℕ
-down = flat_map written (m.Hello 3 ∷ m.Refused (codes "call-1") ∷ [])
+down = flat_map written (m.Hello 3 ∷ m.Refused (codes "call_1") ∷ [])
 
-up-said : IsSaid 3 to_broker (asked ∷ []) up
+up_said : IsSaid 3 to_broker (asked ∷ []) up
 unfolding up
-up-said = record { each = ((refl, asked-spelled), tt); whole = inr refl }
+up_said = record { each = ((refl, asked_spelled), tt); whole = inr refl }
 
-down-said : IsSaid 3 to_agent (answer ∷ []) down
+down_said : IsSaid 3 to_agent (answer ∷ []) down
 unfolding down
-down-said = record { each = ((refl, answer-spelled), tt); whole = inr refl }
+down_said = record { each = ((refl, answer_spelled), tt); whole = inr refl }
 
-up-heard : (hears 3 to_broker up).messages ≡ asked ∷ []
-up-heard = all-heard 3 3 to_broker broker-on_control (asked ∷ []) up (omega arith) (omega arith) up-said
+up_heard : (hears 3 to_broker up).messages ≡ asked ∷ []
+up_heard = all_heard 3 3 to_broker broker_on_control (asked ∷ []) up (omega arith) (omega arith) up_said
 
-down-heard : (hears 3 to_agent down).messages ≡ answer ∷ []
-down-heard = all-heard 3 3 to_agent agent-on_control (answer ∷ []) down (omega arith) (omega arith) down-said
+down_heard : (hears 3 to_agent down).messages ≡ answer ∷ []
+down_heard = all_heard 3 3 to_agent agent_on_control (answer ∷ []) down (omega arith) (omega arith) down_said
 
-pub version-on : (may : Message → Bool) (said : List Message) (placed : List (Placed Message)) (e : Ending Fault) → the_messages placed ≡ m.Hello 3 ∷ said → (hears_on 3 may placed e).version ≡ Some 3
-version-on may said [] e is = cc
-version-on may said (p ∷ placed) e is = let a : p.message ≡ m.Hello 3 = cc in rw a refl
+pub version_on : (may : Message → Bool) (said : List Message) (placed : List (Placed Message)) (e : Ending Fault) → the_messages placed ≡ m.Hello 3 ∷ said → (hears_on 3 may placed e).version ≡ Some 3
+version_on may said [] e is = cc
+version_on may said (p ∷ placed) e is = let a : p.message ≡ m.Hello 3 = cc in rw a refl
 
-down-version : (hears 3 to_agent down).version ≡ Some 3
+down_version : (hears 3 to_agent down).version ≡ Some 3
 unfolding down
-down-version =
-    let all = reads-all (front OnControl) written (λ x. IsSpellable x × GoesOn OnControl x) (is_prefix_code OnControl) (is_read_again OnControl) (m.Hello 3 ∷ answer ∷ []) (((tt, omega arith), refl), ((answer-spelled, refl), tt)) 0 in
-    version-on to_agent (answer ∷ []) (reading OnControl down).placed (reading OnControl down).ending all.0
+down_version =
+    let all = reads_all (front OnControl) written (λ x. IsSpellable x × GoesOn OnControl x) (is_prefix_code OnControl) (is_read_again OnControl) (m.Hello 3 ∷ answer ∷ []) (((tt, omega arith), refl), ((answer_spelled, refl), tt)) 0 in
+    version_on to_agent (answer ∷ []) (reading OnControl down).placed (reading OnControl down).ending all.0
 
 -- ---- the run
 
@@ -173,15 +173,15 @@ begun : (orders : Orders) (place : PagePlace) → BeganAsSaid (one orders) place
 begun orders (Control d) = record { orders = refl; start = refl }
 begun orders (Payload from to port) = record { orders = refl; start = refl }
 
-none-hostile : (orders : Orders) (d : ℕ) → hostile_at (one orders) d ≡ false
-none-hostile orders zero = refl
-none-hostile orders (suc zero) = refl
-none-hostile orders (suc (suc d)) = refl
+none_hostile : (orders : Orders) (d : ℕ) → hostile_at (one orders) d ≡ false
+none_hostile orders zero = refl
+none_hostile orders (suc zero) = refl
+none_hostile orders (suc (suc d)) = refl
 
-only-one : (orders : Orders) (d : ℕ) → is_domain (hub_of (one orders)) d ≡ true → d ≡ 1
-only-one orders zero h = cc
-only-one orders (suc zero) h = refl
-only-one orders (suc (suc d)) h = let big : nat_le (suc (suc d)) 1 ≡ false = grind (arith, nat_tests) in let low : nat_le 1 (suc (suc d)) ≡ true = grind (arith, nat_tests) in let none = rw (low, big) at h in cc
+only_one : (orders : Orders) (d : ℕ) → is_domain (hub_of (one orders)) d ≡ true → d ≡ 1
+only_one orders zero h = cc
+only_one orders (suc zero) h = refl
+only_one orders (suc (suc d)) h = let big : nat_le (suc (suc d)) 1 ≡ false = grind (arith, nat_tests) in let low : nat_le 1 (suc (suc d)) ≡ true = grind (arith, nat_tests) in let none = rw (low, big) at h in cc
 
 scenario : (orders : Orders) → IsScenario (one orders)
 scenario orders = record {
@@ -192,48 +192,48 @@ scenario orders = record {
   calls_fit = All-from_recursion (CallFits (one orders).domains) (the_call ∷ []) (record { number = omega arith; caller = refl; target = refl; service = refl; stdin = omega arith }, tt);
   rising = (omega arith, tt);
   stdin = omega arith;
-  words = omega (arith, few-words orders);
+  words = omega (arith, few_words orders);
 }
 
-no-connect : (t port : ℕ) (i : List ℕ) → Has (answer ∷ []) (m.Connect t port i) → ⊥
-no-connect t port i (inl e) = cc
-no-connect t port i (inr h) = h
+no_connect : (t port : ℕ) (i : List ℕ) → Has (answer ∷ []) (m.Connect t port i) → ⊥
+no_connect t port i (inl e) = cc
+no_connect t port i (inr h) = h
 
 broker : (orders : Orders) → BrokerOwes (hub_of (one orders)) (awaited_by (one orders)) the_journal (broker_end (one_run orders))
 broker orders = record {
   decided = (refl, tt);
   numbered = (refl, tt);
-  reads = λ d there. (let is = only-one orders d there in let heard = up-heard in rw (is, heard) refl);
+  reads = λ d there. (let is = only_one orders d there in let heard = up_heard in rw (is, heard) refl);
   drops = λ d there gone. cc;
   said = λ d. answer ∷ [];
-  says = λ d there. down-said;
-  from_journal = λ d there. (let is = only-one orders d there in rw is ([], IsPermutation-refl (answer ∷ [])));
-  exec_first = λ f t port i there h. absurd (no-connect t port i (has-from (answer ∷ []) (m.Connect t port i) h));
-  settled = λ d there kept. (let is = only-one orders d there in rw is (omega arith));
-  all_said = λ d there kept some. (let is = only-one orders d there in rw is (IsPermutation-refl (answer ∷ [])));
+  says = λ d there. down_said;
+  from_journal = λ d there. (let is = only_one orders d there in rw is ([], IsPermutation-refl (answer ∷ [])));
+  exec_first = λ f t port i there h. absurd (no_connect t port i (has_from (answer ∷ []) (m.Connect t port i) h));
+  settled = λ d there kept. (let is = only_one orders d there in rw is (omega arith));
+  all_said = λ d there kept some. (let is = only_one orders d there in rw is (IsPermutation-refl (answer ∷ [])));
 }
 
 reported : (orders : Orders) (heard : List Message) → heard ≡ answer ∷ [] → EachPair (ReportsCall (agent_plan (one orders) 1) (end_of (one_run orders) 1)) (takes_all 1 (nothing_heard (agent_plan (one orders) 1)) heard).asked (record { number = 1; end = WasRefused } ∷ [])
 reported orders heard is =
-    let same : bytes_eq (ident_of 1) (codes "call-1") ≡ true = ap (λ x. bytes_eq x (codes "call-1")) ident-is ∙ same-bytes (codes "call-1") in
+    let same : bytes_eq (ident_of 1) (codes "call_1") ≡ true = ap (λ x. bytes_eq x (codes "call_1")) ident_is ∙ same_bytes (codes "call_1") in
     rw (is, same) ((refl, tt), tt)
 
-served-none : (orders : Orders) (heard : List Message) → heard ≡ answer ∷ [] → (takes_all 1 (nothing_heard (agent_plan (one orders) 1)) heard).served ≡ []
-served-none orders heard is = rw is refl
+served_none : (orders : Orders) (heard : List Message) → heard ≡ answer ∷ [] → (takes_all 1 (nothing_heard (agent_plan (one orders) 1)) heard).served ≡ []
+served_none orders heard is = rw is refl
 
 agent : (orders : Orders) (d : ℕ) → IsHonest (one orders) d → AgentOwes (agent_plan (one orders) d) (end_of (one_run orders) d) (record { number = 1; end = WasRefused } ∷ []) [] Drained
 agent orders zero h = let bad = h.there in cc
 agent orders (suc zero) h = record {
   said = asked ∷ [];
-  says = up-said;
-  in_order = ([], (let i = ident-is in rw i refl));
-  of_version = ((3, down-version, refl), tt);
-  greeted = λ e. (let v : None ≡ Some 3 = sym e ∙ down-version in cc);
+  says = up_said;
+  in_order = ([], (let i = ident_is in rw i refl));
+  of_version = ((3, down_version, refl), tt);
+  greeted = λ e. (let v : None ≡ Some 3 = sym e ∙ down_version in cc);
   keeps = λ target. ((λ e. omega arith), tt);
   told = (tt, tt);
   over = (refl, refl);
-  reports = reported orders (hears 3 to_agent down).messages down-heard;
-  serves = (let none = served-none orders (hears 3 to_agent down).messages down-heard in rw none tt);
+  reports = reported orders (hears 3 to_agent down).messages down_heard;
+  serves = (let none = served_none orders (hears 3 to_agent down).messages down_heard in rw none tt);
 }
 agent orders (suc (suc d)) h = let bad = h.there in cc
 
@@ -242,9 +242,9 @@ there_is_a_run orders = record {
   scenario = scenario orders;
   settled = λ place there. settled orders ((one_run orders).page place) refl;
   begun = λ place there. begun orders place;
-  server_turned = λ place there. sym (none-hostile orders (server_of place));
-  client_turned = λ place there. sym (none-hostile orders (client_of place));
+  server_turned = λ place there. sym (none_hostile orders (server_of place));
+  client_turned = λ place there. sym (none_hostile orders (client_of place));
   broker = broker orders;
   agent = agent orders;
-  hostile = λ d bad. (let fine = none-hostile orders d in let both : false ≡ true = sym fine ∙ bad in cc);
+  hostile = λ d bad. (let fine = none_hostile orders d in let both : false ≡ true = sym fine ∙ bad in cc);
 }

@@ -21,9 +21,9 @@ calls = flat_map written (m.Hello 3 ∷ m.Stdin [] ∷ [])
 abbrev pub serves : List ℕ
 serves = flat_map written (m.Hello 3 ∷ m.Stdout [] ∷ m.Stderr [] ∷ m.ExitCode (pos 0) ∷ [])
 
-pub caller-owes : (end : EndView) → CallerOwes 3 [] (record { outcome = outcome.Done (pos 0); stdout = []; stderr = []; got = serves }) (end_with end calls serves)
+pub caller_owes : (end : EndView) → CallerOwes 3 [] (record { outcome = outcome.Done (pos 0); stdout = []; stderr = []; got = serves }) (end_with end calls serves)
 unfolding front
-caller-owes end = record {
+caller_owes end = record {
   got = refl;
   sent = (m.Hello 3 ∷ m.Stdin [] ∷ [], record { pieces = []; each = tt; all = refl; is = refl }, ([], append-nil calls));
   stdout = refl;
@@ -32,9 +32,9 @@ caller-owes end = record {
   ended = tt;
 }
 
-pub serving-owes : (end : EndView) → ServingOwes 3 (codes "echo") (outcome.Done (pos 0)) calls (end_with end serves calls)
+pub serving_owes : (end : EndView) → ServingOwes 3 (codes "echo") (outcome.Done (pos 0)) calls (end_with end serves calls)
 unfolding front service
-serving-owes end = record {
+serving_owes end = record {
   owed = λ input. writes input;
   is_service = λ input. refl;
   got_is = refl;

@@ -11,7 +11,7 @@ use Rattle.task_duties.specs.Words.{is_space, is_word}
 use Rattle.task_duties.proofs.LineLaw.{HasNoSpace}
 use Rattle.scenario_file.specs.Scenario.{Plan as Scenario, domain_of, domain_named, place_named, name_at}
 use Rattle.scenario_file.specs.declared.scenario.Domain.{Domain}
-use Rattle.scenario_file.proofs.WithoutLaws.{named-there}
+use Rattle.scenario_file.proofs.WithoutLaws.{named_there}
 use Rattle.run_laws.specs.Laid.{hub_of}
 use Rattle.run_laws.proofs.Scenarios.Facts.{IsName, IsDomain, IsClean}
 
@@ -27,104 +27,104 @@ target_byte b = is_name_byte b || (b == 64) || (b == 58)
 abbrev pub kept : (ℕ → Bool) → List ℕ → List ℕ
 kept keeps text = map (λ b. if keeps b then b else 95) text
 
-byte-clean : (keeps : ℕ → Bool) → keeps 95 ≡ true → (b : ℕ) → (if keeps b then b else 95) ≡ b → keeps b ≡ true
-byte-clean keeps line b same = by_test (keeps b) refl same
+byte_clean : (keeps : ℕ → Bool) → keeps 95 ≡ true → (b : ℕ) → (if keeps b then b else 95) ≡ b → keeps b ≡ true
+byte_clean keeps line b same = by_test (keeps b) refl same
   where
     by_test : (c : Bool) → keeps b ≡ c → (if c then b else 95) ≡ b → keeps b ≡ true
     by_test true is e = is
     by_test false is e = subst (λ x. keeps x ≡ true) e line
 
-pub clean-bytes : (keeps : ℕ → Bool) → keeps 95 ≡ true → (text : List ℕ) → kept keeps text ≡ text → Each (λ b. keeps b ≡ true) text
-clean-bytes keeps line [] same = tt
-clean-bytes keeps line (b ∷ text) same =
+pub clean_bytes : (keeps : ℕ → Bool) → keeps 95 ≡ true → (text : List ℕ) → kept keeps text ≡ text → Each (λ b. keeps b ≡ true) text
+clean_bytes keeps line [] same = tt
+clean_bytes keeps line (b ∷ text) same =
     let head : (if keeps b then b else 95) ≡ b = cc in
     let tail : kept keeps text ≡ text = cc in
-    (byte-clean keeps line b head, clean-bytes keeps line text tail)
+    (byte_clean keeps line b head, clean_bytes keeps line text tail)
 
-pub name-bytes : (text : List ℕ) → cleaned_name text ≡ text → Each (λ b. is_name_byte b ≡ true) text
-name-bytes text same = clean-bytes is_name_byte refl text same
+pub name_bytes : (text : List ℕ) → cleaned_name text ≡ text → Each (λ b. is_name_byte b ≡ true) text
+name_bytes text same = clean_bytes is_name_byte refl text same
 
-pub service-bytes : (text : List ℕ) → cleaned_service text ≡ text → Each (λ b. service_byte b ≡ true) text
-service-bytes text same = clean-bytes service_byte refl text same
+pub service_bytes : (text : List ℕ) → cleaned_service text ≡ text → Each (λ b. service_byte b ≡ true) text
+service_bytes text same = clean_bytes service_byte refl text same
 
-no-space : (keeps : ℕ → Bool) → keeps 32 ≡ false → (b : ℕ) → keeps b ≡ true → is_space b ≡ false
-no-space keeps none b ok = by_test (b == 32) refl
+no_space : (keeps : ℕ → Bool) → keeps 32 ≡ false → (b : ℕ) → keeps b ≡ true → is_space b ≡ false
+no_space keeps none b ok = by_test (b == 32) refl
   where
     by_test : (c : Bool) → (b == 32) ≡ c → c ≡ false
     by_test false is = refl
     by_test true is = let same : b ≡ 32 = grind (arith, nat_tests, is) in let ok' : keeps 32 ≡ true = subst (λ x. keeps x ≡ true) same ok in cc
 
-pub no-spaces : (keeps : ℕ → Bool) → keeps 32 ≡ false → (text : List ℕ) → Each (λ b. keeps b ≡ true) text → HasNoSpace text
-no-spaces keeps none [] each = tt
-no-spaces keeps none (b ∷ text) each = (no-space keeps none b each.0, no-spaces keeps none text each.1)
+pub no_spaces : (keeps : ℕ → Bool) → keeps 32 ≡ false → (text : List ℕ) → Each (λ b. keeps b ≡ true) text → HasNoSpace text
+no_spaces keeps none [] each = tt
+no_spaces keeps none (b ∷ text) each = (no_space keeps none b each.0, no_spaces keeps none text each.1)
 
-no-any : (text : List ℕ) → HasNoSpace text → list_any is_space text ≡ false
-no-any [] none = refl
-no-any (b ∷ text) none = rw none.0 (no-any text none.1)
+no_any : (text : List ℕ) → HasNoSpace text → list_any is_space text ≡ false
+no_any [] none = refl
+no_any (b ∷ text) none = rw none.0 (no_any text none.1)
 
-pub word-is : (name : List ℕ) → IsName name → is_word name ≡ true
-word-is [] h = absurd (let some = h.some in omega (arith, some))
-word-is (b ∷ name) h = let none = no-any (b ∷ name) (no-spaces is_name_byte refl (b ∷ name) (name-bytes (b ∷ name) h.clean)) in rw none refl
+pub word_is : (name : List ℕ) → IsName name → is_word name ≡ true
+word_is [] h = absurd (let some = h.some in omega (arith, some))
+word_is (b ∷ name) h = let none = no_any (b ∷ name) (no_spaces is_name_byte refl (b ∷ name) (name_bytes (b ∷ name) h.clean)) in rw none refl
 
-kept-clean : (text : List ℕ) → Each (λ b. is_name_byte b ≡ true) text → kept target_byte text ≡ text
-kept-clean [] each = refl
-kept-clean (b ∷ text) each = let ok = each.0 in rw ok (ap (λ r. b ∷ r) (kept-clean text each.1))
+kept_clean : (text : List ℕ) → Each (λ b. is_name_byte b ≡ true) text → kept target_byte text ≡ text
+kept_clean [] each = refl
+kept_clean (b ∷ text) each = let ok = each.0 in rw ok (ap (λ r. b ∷ r) (kept_clean text each.1))
 
-pub target-clean : (text : List ℕ) → Each (λ b. is_name_byte b ≡ true) text → cleaned_target text ≡ text
-target-clean text each = kept-clean text each
+pub target_clean : (text : List ℕ) → Each (λ b. is_name_byte b ≡ true) text → cleaned_target text ≡ text
+target_clean text each = kept_clean text each
 
 -- ---- the domain that a text names
 
-pub place-same : (domains : List Domain) (text : List ℕ) → place_of (map (λ domain. domain.name) domains) text ≡ place_named domains text
-place-same [] text = refl
-place-same (x ∷ domains) text = ap (λ o. if bytes_eq x.name text then Some 0 else option_map suc o) (place-same domains text)
+pub place_same : (domains : List Domain) (text : List ℕ) → place_of (map (λ domain. domain.name) domains) text ≡ place_named domains text
+place_same [] text = refl
+place_same (x ∷ domains) text = ap (λ o. if bytes_eq x.name text then Some 0 else option_map suc o) (place_same domains text)
 
-pub target-is : (s : Scenario) (text : List ℕ) → IsName text → target_of (hub_of s) text ≡ domain_named s text
-target-is s text h =
-    let clean = target-clean text (name-bytes text h.clean) in
-    let place = place-same s.domains text in
+pub target_is_lem : (s : Scenario) (text : List ℕ) → IsName text → target_of (hub_of s) text ≡ domain_named s text
+target_is_lem s text h =
+    let clean = target_clean text (name_bytes text h.clean) in
+    let place = place_same s.domains text in
     rw (clean, place) refl
 
-pub target-there : (s : Scenario) (text : List ℕ) (t : ℕ) → target_of (hub_of s) text ≡ Some t → is_some (domain_of s t) ≡ true
-target-there s text t h = by_place (place_named s.domains (cleaned_target text)) refl (ap (option_map suc) (sym (place-same s.domains (cleaned_target text))) ∙ h)
+pub target_there : (s : Scenario) (text : List ℕ) (t : ℕ) → target_of (hub_of s) text ≡ Some t → is_some (domain_of s t) ≡ true
+target_there s text t h = by_place (place_named s.domains (cleaned_target text)) refl (ap (option_map suc) (sym (place_same s.domains (cleaned_target text))) ∙ h)
   where
     by_place : (o : Option ℕ) → place_named s.domains (cleaned_target text) ≡ o → option_map suc o ≡ Some t → is_some (domain_of s t) ≡ true
     by_place None is e = cc
-    by_place (Some k) is e = let same : suc k ≡ t = cc in subst (λ x. is_some (domain_of s x) ≡ true) same (named-there s.domains (cleaned_target text) k is)
+    by_place (Some k) is e = let same : suc k ≡ t = cc in subst (λ x. is_some (domain_of s x) ≡ true) same (named_there s.domains (cleaned_target text) k is)
 
 -- ---- the names of domains by number
 
-name-at : (domains : List Domain) (k : ℕ) → slice_index_or (map (λ domain. domain.name) domains) k [] ≡ option_map_or (λ domain. domain.name) (slice_get domains k) []
-name-at [] k = refl
-name-at (x ∷ domains) zero = refl
-name-at (x ∷ domains) (suc k) = name-at domains k
+name_at_lem : (domains : List Domain) (k : ℕ) → slice_index_or (map (λ domain. domain.name) domains) k [] ≡ option_map_or (λ domain. domain.name) (slice_get domains k) []
+name_at_lem [] k = refl
+name_at_lem (x ∷ domains) zero = refl
+name_at_lem (x ∷ domains) (suc k) = name_at_lem domains k
 
-pub name-is : (s : Scenario) (d : ℕ) → is_some (domain_of s d) ≡ true → name_of (hub_of s) d ≡ name_at s d
-name-is s zero h = cc
-name-is s (suc k) h = let e : suc k - 1 ≡ k = omega arith in rw e (name-at s.domains k)
+pub name_is : (s : Scenario) (d : ℕ) → is_some (domain_of s d) ≡ true → name_of (hub_of s) d ≡ name_at s d
+name_is s zero h = cc
+name_is s (suc k) h = let e : suc k - 1 ≡ k = omega arith in rw e (name_at_lem s.domains k)
 
-named-well : (domains : List Domain) → Each IsDomain domains → (k : ℕ) → is_some (slice_get domains k) ≡ true → IsName (option_map_or (λ domain. domain.name) (slice_get domains k) [])
-named-well [] each k h = cc
-named-well (x ∷ domains) each zero h = each.0.name
-named-well (x ∷ domains) each (suc k) h = named-well domains each.1 k h
+named_well : (domains : List Domain) → Each IsDomain domains → (k : ℕ) → is_some (slice_get domains k) ≡ true → IsName (option_map_or (λ domain. domain.name) (slice_get domains k) [])
+named_well [] each k h = cc
+named_well (x ∷ domains) each zero h = each.0.name
+named_well (x ∷ domains) each (suc k) h = named_well domains each.1 k h
 
-pub name-well : (s : Scenario) → IsClean s → (d : ℕ) → is_some (domain_of s d) ≡ true → IsName (name_at s d)
-name-well s h zero there = cc
-name-well s h (suc k) there = named-well s.domains h.domains k there
+pub name_well : (s : Scenario) → IsClean s → (d : ℕ) → is_some (domain_of s d) ≡ true → IsName (name_at s d)
+name_well s h zero there = cc
+name_well s h (suc k) there = named_well s.domains h.domains k there
 
-pub below-there : (domains : List Domain) (k : ℕ) → k < length domains → is_some (slice_get domains k) ≡ true
-below-there [] k less = absurd (omega (arith, less))
-below-there (x ∷ domains) zero less = refl
-below-there (x ∷ domains) (suc k) less = below-there domains k (omega (arith, less))
+pub below_there : (domains : List Domain) (k : ℕ) → k < length domains → is_some (slice_get domains k) ≡ true
+below_there [] k less = absurd (omega (arith, less))
+below_there (x ∷ domains) zero less = refl
+below_there (x ∷ domains) (suc k) less = below_there domains k (omega (arith, less))
 
-length-names : (domains : List Domain) → length (map (λ domain. domain.name) domains) ≡ length domains
-length-names [] = refl
-length-names (x ∷ domains) = ap suc (length-names domains)
+length_names : (domains : List Domain) → length (map (λ domain. domain.name) domains) ≡ length domains
+length_names [] = refl
+length_names (x ∷ domains) = ap suc (length_names domains)
 
-pub domain-there : (s : Scenario) (d : ℕ) → is_domain (hub_of s) d ≡ true → is_some (domain_of s d) ≡ true
-domain-there s zero h = let parts = and_parts (nat_le 1 0) (nat_le 0 (length (map (λ domain. domain.name) s.domains))) h in let no = parts.0 in absurd (let bad : 1 ≤ 0 = grind (arith, nat_tests, no) in omega (arith, bad))
-domain-there s (suc k) h =
+pub domain_there : (s : Scenario) (d : ℕ) → is_domain (hub_of s) d ≡ true → is_some (domain_of s d) ≡ true
+domain_there s zero h = let parts = and_parts (nat_le 1 0) (nat_le 0 (length (map (λ domain. domain.name) s.domains))) h in let no = parts.0 in absurd (let bad : 1 ≤ 0 = grind (arith, nat_tests, no) in omega (arith, bad))
+domain_there s (suc k) h =
     let parts = and_parts (nat_le 1 (suc k)) (nat_le (suc k) (length (map (λ domain. domain.name) s.domains))) h in
     let low = parts.1 in
     let less : suc k ≤ length (map (λ domain. domain.name) s.domains) = grind (arith, nat_tests, low) in
-    below-there s.domains k (omega (arith, less, length-names s.domains))
+    below_there s.domains k (omega (arith, less, length_names s.domains))

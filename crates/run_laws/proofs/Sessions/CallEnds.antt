@@ -15,14 +15,14 @@ use Rattle.task_duties.specs.declared.done.CallDone.{CallDone}
 use Rattle.task_duties.specs.declared.done.CallEnd.{CallEnd}
 use Rattle.task_duties.specs.declared.done.CallEnd.TheVariants.{Unanswered}
 use Rattle.task_duties.specs.Agent.Owes.{ReportsCall, ReportsAnswer}
-use Rattle.task_duties.proofs.Elements.{Has, one-key}
+use Rattle.task_duties.proofs.Elements.{Has, one_key}
 use Rattle.run_laws.specs.Laid.{calls_from, agent_plan}
 use Rattle.run_laws.specs.Run.{Run, IsRun, IsHonest, end_of}
 use Rattle.run_laws.specs.Laws.{agent_heard}
 use Rattle.run_laws.specs.ReadOff.{end_in}
-use Rattle.run_laws.proofs.Scenarios.Calls.{calls-differ}
-use Rattle.run_laws.proofs.Sessions.CallLaw.{AreHeard, IsHeard, all-heard}
-use Rattle.run_laws.proofs.Domains.ControlLaws.{own-end}
+use Rattle.run_laws.proofs.Scenarios.Calls.{calls_differ}
+use Rattle.run_laws.proofs.Sessions.CallLaw.{AreHeard, IsHeard, all_heard}
+use Rattle.run_laws.proofs.Domains.ControlLaws.{own_end}
 use Rattle.run_laws.proofs.Domains.AnswersAllLaw.{answers_all}
 use Rattle.run_laws.proofs.Scenarios.Facts.{facts}
 
@@ -73,12 +73,12 @@ pub record IsReported (s : Scenario) (run : Run) (d : ℕ) (call : CallPlan) (e 
   pub reports : ReportsAnswer (agent_plan s d) (end_of run d) call answer e
   pub answered : e ≢ Unanswered
 
-pub is-reported : (s : Scenario) (run : Run) (h : IsRun s run) (d : ℕ) → IsHonest s d → (call : CallPlan) → Has (calls_from s d) call → IsReported s run d call (end_in (run.calls d) call.number)
-is-reported s run h d honest call planned =
+pub is_reported : (s : Scenario) (run : Run) (h : IsRun s run) (d : ℕ) → IsHonest s d → (call : CallPlan) → Has (calls_from s d) call → IsReported s run d call (end_in (run.calls d) call.number)
+is_reported s run h d honest call planned =
     let agent = h.agent d honest in
-    let reports = rw (own-end run d) at agent.reports in
-    let f = found (agent_heard s run d) (agent_plan s d) (end_of run d) (calls_from s d) _ (run.calls d) (all-heard s run d (agent_heard s run d)) reports (answers_all s run h d honest).reported call planned in
-    let same : f.call ≡ call = one-key (λ c. ident_of c.number) (calls_from s d) (calls-differ s (facts s run h) d) f.call call f.there planned (ap ident_of f.numbered) in
+    let reports = rw (own_end run d) at agent.reports in
+    let f = found (agent_heard s run d) (agent_plan s d) (end_of run d) (calls_from s d) _ (run.calls d) (all_heard s run d (agent_heard s run d)) reports (answers_all s run h d honest).reported call planned in
+    let same : f.call ≡ call = one_key (λ c. ident_of c.number) (calls_from s d) (calls_differ s (facts s run h) d) f.call call f.there planned (ap ident_of f.numbered) in
     record {
       answer = f.answer;
       heard_is = subst (λ c. IsHeard (agent_heard s run d) c f.answer) same f.heard_is;

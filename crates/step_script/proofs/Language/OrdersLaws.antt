@@ -14,8 +14,8 @@ order_passed order true fits is =
 order_passed order false fits is = absurd (cc)
 
 -- an order is that of its number
-pub order_of-number : (order : Order) → order_of order.number ≡ Some order
-order_of-number order =
+pub order_of_number : (order : Order) → order_of order.number ≡ Some order
+order_of_number order =
     let low : 10 ≤ order.number = order.in_range.0 in
     let high : order.number ≤ 20 = order.in_range.1 in
     order_passed order (leb 10 order.number && leb order.number 20) (order_fits order.number) (grind (arith, nat_tests))
@@ -27,14 +27,14 @@ orders_passed orders true differ is =
 orders_passed orders false differ is = absurd (cc)
 
 -- the orders of a page are those of their numbers
-pub orders_of-numbers : (orders : Orders) → orders_of orders.left.number orders.right.number ≡ Some orders
-orders_of-numbers orders =
-    rw (order_of-number orders.left, order_of-number orders.right)
+pub orders_of_numbers : (orders : Orders) → orders_of orders.left.number orders.right.number ≡ Some orders
+orders_of_numbers orders =
+    rw (order_of_number orders.left, order_of_number orders.right)
     (let distinct : orders.left.number ≡ orders.right.number → 12 ≤ orders.left.number = orders.distinct in
     orders_passed orders (not (eqb orders.left.number orders.right.number) || leb 12 orders.left.number) (orders_differ orders.left.number orders.right.number) (grind (arith, nat_tests)))
 
 pub orders_of_checked : (left right : ℕ) (orders : Orders) → orders.left.number ≡ left → orders.right.number ≡ right → orders_of left right ≡ Some orders
-orders_of_checked left right orders same_left same_right = rw (← same_left, ← same_right) (orders_of-numbers orders)
+orders_of_checked left right orders same_left same_right = rw (← same_left, ← same_right) (orders_of_numbers orders)
 
 orders_failed : (left right : Order) (passed : Bool) (differ : passed ≡ true → left.number ≡ right.number → 12 ≤ left.number) → passed ≡ false → orders_where left right passed differ ≡ None
 orders_failed left right true differ is = absurd (cc)

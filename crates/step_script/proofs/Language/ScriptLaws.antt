@@ -24,42 +24,42 @@ use Rattle.step_script.specs.Parts.ScriptLines.{line_seen, lines_seen, payload_l
 abbrev pub behind : List StepLine → Result (List StepLine) (ℕ × ScriptKind) → Result (List StepLine) (ℕ × ScriptKind)
 behind front more = more >>= (λ lines. Ok (front ++ lines))
 
-behind-first : (front : List StepLine) (next : StepLine) (more : Result (List StepLine) (ℕ × ScriptKind)) → behind front (more >>= (λ lines. Ok (next ∷ lines))) ≡ behind (front ++ next ∷ []) more
-behind-first front next (Ok lines) = ap (λ (l : List StepLine). Ok l) (sym (append_assoc front (next ∷ []) lines))
-behind-first front next (Err bad) = refl
+behind_first : (front : List StepLine) (next : StepLine) (more : Result (List StepLine) (ℕ × ScriptKind)) → behind front (more >>= (λ lines. Ok (next ∷ lines))) ≡ behind (front ++ next ∷ []) more
+behind_first front next (Ok lines) = ap (λ (l : List StepLine). Ok l) (sym (append_assoc front (next ∷ []) lines))
+behind_first front next (Err bad) = refl
 
 -- what follows once it is known how a line is read
 goes_on : Orders → ℕ → Lines → Result StepLine (ℕ × ScriptKind) → Result (List StepLine) (ℕ × ScriptKind)
 goes_on orders room more found = found >>= (λ next. lines_from orders (room - payload_len next) more >>= (λ rest. Ok (next ∷ rest)))
 
-lines_from-line : (orders : Orders) (room number : ℕ) (text : List ℕ) (more : Lines) → lines_from orders room (line number text more) ≡ goes_on orders room more (at_number number (line_of orders room (words_of text)))
+lines_from_line : (orders : Orders) (room number : ℕ) (text : List ℕ) (more : Lines) → lines_from orders room (line number text more) ≡ goes_on orders room more (at_number number (line_of orders room (words_of text)))
 unfolding lines_from goes_on
-lines_from-line orders room number text more = refl
+lines_from_line orders room number text more = refl
 
-lines_from-stops : (orders : Orders) (room number : ℕ) → lines_from orders room (stops number) ≡ Ok []
+lines_from_stops : (orders : Orders) (room number : ℕ) → lines_from orders room (stops number) ≡ Ok []
 unfolding lines_from
-lines_from-stops orders room number = refl
+lines_from_stops orders room number = refl
 
-lines_from-refused : (orders : Orders) (room number : ℕ) → lines_from orders room (refused number) ≡ Err (number, kind.TooManyLines)
+lines_from_refused : (orders : Orders) (room number : ℕ) → lines_from orders room (refused number) ≡ Err (number, kind.TooManyLines)
 unfolding lines_from
-lines_from-refused orders room number = refl
+lines_from_refused orders room number = refl
 
-goes_on-Ok : (front : List StepLine) (orders : Orders) (room : ℕ) (more : Lines) (next : StepLine) → behind front (goes_on orders room more (Ok next)) ≡ behind (front ++ next ∷ []) (lines_from orders (room - payload_len next) more)
+goes_on_Ok : (front : List StepLine) (orders : Orders) (room : ℕ) (more : Lines) (next : StepLine) → behind front (goes_on orders room more (Ok next)) ≡ behind (front ++ next ∷ []) (lines_from orders (room - payload_len next) more)
 unfolding goes_on
-goes_on-Ok front orders room more next = behind-first front next (lines_from orders (room - payload_len next) more)
+goes_on_Ok front orders room more next = behind_first front next (lines_from orders (room - payload_len next) more)
 
-goes_on-Err : (orders : Orders) (room : ℕ) (more : Lines) (bad : ℕ × ScriptKind) → goes_on orders room more (Err bad) ≡ Err bad
+goes_on_Err : (orders : Orders) (room : ℕ) (more : Lines) (bad : ℕ × ScriptKind) → goes_on orders room more (Err bad) ≡ Err bad
 unfolding goes_on
-goes_on-Err orders room more bad = refl
+goes_on_Err orders room more bad = refl
 
 -- a read line joins those read so far
 pub read_further : (orders : Orders) (front : List StepLine) (next : StepLine) (left more : Lines) (room number : ℕ) (text : List ℕ) (due : Result (List StepLine) (ℕ × ScriptKind))
     → behind front (lines_from orders room left) ≡ due → left ≡ line number text more → at_number number (line_of orders room (words_of text)) ≡ Ok next
     → behind (front ++ next ∷ []) (lines_from orders (room - payload_len next) more) ≡ due
 read_further orders front next left more room number text due summary cut good =
-    sym (goes_on-Ok front orders room more next)
+    sym (goes_on_Ok front orders room more next)
     ∙ ap (λ (r : Result StepLine (ℕ × ScriptKind)). behind front (goes_on orders room more r)) (sym good)
-    ∙ ap (behind front) (sym (lines_from-line orders room number text more))
+    ∙ ap (behind front) (sym (lines_from_line orders room number text more))
     ∙ ap (λ (l : Lines). behind front (lines_from orders room l)) (sym cut) ∙ summary
 
 pub read_on : (orders : Orders) (lines : List ScriptLine) (next : ScriptLine) (left more : Lines) (room number : ℕ) (text : List ℕ) (due : Result (List StepLine) (ℕ × ScriptKind))
@@ -72,7 +72,7 @@ read_on orders lines next left more room number text due summary cut good =
 bad_line : (e : ScriptError) (front : List StepLine) (orders : Orders) (room number : ℕ) (text : List ℕ) (more : Lines) → IsScriptRefusal e (at_number number (line_of orders room (words_of text)))
     → IsScriptRefusal e (behind front (lines_from orders room (line number text more)))
 bad_line (script.Bad bad kind) front orders room number text more is =
-    ap (behind front) (lines_from-line orders room number text more ∙ ap (goes_on orders room more) is ∙ goes_on-Err orders room more (bad, kind))
+    ap (behind front) (lines_from_line orders room number text more ∙ ap (goes_on orders room more) is ∙ goes_on_Err orders room more (bad, kind))
 bad_line script.Memory front orders room number text more is = tt
 
 -- a refused line is what the whole reading is refused for
@@ -92,22 +92,22 @@ pub refused_next : (many : TooManyLines) (e : ScriptError) (front : List StepLin
     → behind front (lines_from orders room left) ≡ due → IsNext (Err many) left after → e ≡ bad_script (bad_line_of many) → IsScriptRefusal e due
 refused_next many e front orders left after room due summary is same =
     let family : ScriptError → Type 0 = λ e. IsScriptRefusal e due in
-    subst family (sym same) (sym summary ∙ ap (λ (l : Lines). behind front (lines_from orders room l)) is ∙ ap (behind front) (lines_from-refused orders room many.line))
+    subst family (sym same) (sym summary ∙ ap (λ (l : Lines). behind front (lines_from orders room l)) is ∙ ap (behind front) (lines_from_refused orders room many.line))
 
 -- if no line is left, all is read
 pub all_read : (front : List StepLine) (orders : Orders) (left : Lines) (room number : ℕ) (due : Result (List StepLine) (ℕ × ScriptKind))
     → behind front (lines_from orders room left) ≡ due → left ≡ stops number → due ≡ Ok front
 all_read front orders left room number due summary none =
-    sym summary ∙ ap (λ (l : Lines). behind front (lines_from orders room l)) none ∙ ap (behind front) (lines_from-stops orders room number) ∙ ap (λ (l : List StepLine). Ok l) (append-nil front)
+    sym summary ∙ ap (λ (l : Lines). behind front (lines_from orders room l)) none ∙ ap (behind front) (lines_from_stops orders room number) ∙ ap (λ (l : List StepLine). Ok l) (append-nil front)
 
 -- the bytes of one more line
-pub sum-more : (lines : List ScriptLine) (next : ScriptLine) → sum_by payload_len (lines_seen (lines ++ next ∷ [])) ≡ sum_by payload_len (lines_seen lines) + payload_len (line_seen next)
-sum-more lines next = grind (arith, map-append, sum_by-append)
+pub sum_more : (lines : List ScriptLine) (next : ScriptLine) → sum_by payload_len (lines_seen (lines ++ next ∷ [])) ≡ sum_by payload_len (lines_seen lines) + payload_len (line_seen next)
+sum_more lines next = grind (arith, map-append, sum_by-append)
 
 pub alone_fits : (orders : Orders) (next : StepLine) → LineFits orders next → All (LineFits orders) (next ∷ [])
 alone_fits orders next one = search rules
 
 -- all lines fit with one more that does
-pub fit-more : (orders : Orders) (lines : List ScriptLine) (next : ScriptLine) → All (LineFits orders) (lines_seen lines) → LineFits orders (line_seen next) → All (LineFits orders) (lines_seen (lines ++ next ∷ []))
-fit-more orders lines next fit one =
+pub fit_more : (orders : Orders) (lines : List ScriptLine) (next : ScriptLine) → All (LineFits orders) (lines_seen lines) → LineFits orders (line_seen next) → All (LineFits orders) (lines_seen (lines ++ next ∷ []))
+fit_more orders lines next fit one =
     subst (All (LineFits orders)) (sym (map-append line_seen lines (next ∷ []))) (All-append (LineFits orders) (lines_seen lines) (line_seen next ∷ []) fit (alone_fits orders (line_seen next) one))

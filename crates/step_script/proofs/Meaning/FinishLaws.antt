@@ -1,7 +1,7 @@
 -- The events of a call up to its answer are the rest of its plan.
 use Rattle.std.proofs.Common.{◌≡◌, ℕ, suc, zero, ◌≤◌, Option, Some, None, List, [], ◌∷◌, ◌++◌, refl, subst, sym, ap, ◌∙◌, arith}
 use Rattle.ring_words.specs.declared.page.Role.{Role}
-use Rattle.ring_words.proofs.RingLaws.{size-within}
+use Rattle.ring_words.proofs.RingLaws.{size_within}
 use Rattle.vchan_protocol.specs.declared.op.PastEvent.{PastEvent}
 use Rattle.vchan_protocol.specs.declared.call.Answer.{Answer}
 use Rattle.vchan_protocol.specs.declared.call.Answer.TheVariants.{Done}
@@ -19,21 +19,21 @@ use Rattle.vchan_core.specs.Page.StandsFor.{IsMachineOf}
 use Rattle.vchan_core.specs.OneMachine.Phases.{IsIdle}
 use Rattle.vchan_protocol.specs.Table.Plan.{EndsWithin, GoesOn, Plan, answers, does, next_op, after, rest_after, past}
 use Rattle.vchan_protocol.proofs.Table.Bounds.{ends_call, more_time}
-use Rattle.vchan_core.proofs.OneMachine.PhaseLaws.{GoesOn-machine}
-use Rattle.vchan_protocol.proofs.History.WholeCallLaws.{alone-after, alone-answers}
-use Rattle.vchan_protocol.proofs.History.EventLaws.{event_by-answers, event_by-on, side_of-with_side}
-use Rattle.vchan_core.proofs.Page.StepLaws.{InCall, in_call, plan_left-is}
+use Rattle.vchan_core.proofs.OneMachine.PhaseLaws.{GoesOn_machine}
+use Rattle.vchan_protocol.proofs.History.WholeCallLaws.{alone_after, alone_answers}
+use Rattle.vchan_protocol.proofs.History.EventLaws.{event_by_answers, event_by_on, side_of_with_side}
+use Rattle.vchan_core.proofs.Page.StepLaws.{InCall, in_call, plan_left_is}
 use Rattle.vchan_protocol.proofs.History.EventLaws.{event_by}
 use Rattle.vchan_core.specs.WholeCall.Stepped.{stepped, unless_answered}
 
 -- ---- how many events are left
 
 few_events : (e : Standing) (call : Call) → most_events e call ≤ 4294967295
-few_events e (Write n) = omega (arith, (size-within (write_order e)).1)
-few_events e (Send n) = omega (arith, (size-within (write_order e)).1)
-few_events e (Read n) = omega (arith, (size-within (read_order e)).1)
-few_events e (Recv n) = omega (arith, (size-within (read_order e)).1)
-few_events e (Drain n) = omega (arith, (size-within (read_order e)).1)
+few_events e (Write n) = omega (arith, (size_within (write_order e)).1)
+few_events e (Send n) = omega (arith, (size_within (write_order e)).1)
+few_events e (Read n) = omega (arith, (size_within (read_order e)).1)
+few_events e (Recv n) = omega (arith, (size_within (read_order e)).1)
+few_events e (Drain n) = omega (arith, (size_within (read_order e)).1)
 few_events e DataReady = omega arith
 few_events e BufferSpace = omega arith
 few_events e Connect = omega arith
@@ -62,11 +62,11 @@ ends_never (does op next) more w = w
 
 -- ---- one event of a plan
 
-rest_after-push : (plan : Plan) (events : List PastEvent) (event : PastEvent) → rest_after plan (events ++ event ∷ []) ≡ after (rest_after plan events) event.taken
-rest_after-push (answers answer) [] event = refl
-rest_after-push (does op next) [] event = refl
-rest_after-push (answers answer) (first ∷ events) event = refl
-rest_after-push (does op next) (first ∷ events) event = rest_after-push (next first.taken) events event
+rest_after_push : (plan : Plan) (events : List PastEvent) (event : PastEvent) → rest_after plan (events ++ event ∷ []) ≡ after (rest_after plan events) event.taken
+rest_after_push (answers answer) [] event = refl
+rest_after_push (does op next) [] event = refl
+rest_after_push (answers answer) (first ∷ events) event = refl
+rest_after_push (does op next) (first ∷ events) event = rest_after_push (next first.taken) events event
 
 -- this end is inside this call, of which this plan is left
 record IsInside (s : Side) (b : Begun) (plan : Plan) : Type 0 where
@@ -82,10 +82,10 @@ inside_on : (core : Core) (who : Role) (b : Begun) (plan : Plan) → IsInside (s
 inside_on core who b plan i =
     let s : Side = side_of core who in
     let value : ℕ = value_taken core.orders core.words (next_op plan) in
-    subst (λ (x : Side). IsInside x b (after plan value)) (sym (side_of-with_side _ who (made s (next_op plan) value)))
+    subst (λ (x : Side). IsInside x b (after plan value)) (sym (side_of_with_side _ who (made s (next_op plan) value)))
     (record {
       call = i.call;
-      left = rest_after-push (plan_of (begun_standing s b) b.call) s.trail (past (next_op plan) value) ∙ ap (λ (p : Plan). after p value) i.left;
+      left = rest_after_push (plan_of (begun_standing s b) b.call) s.trail (past (next_op plan) value) ∙ ap (λ (p : Plan). after p value) i.left;
     })
 
 event_inside : (core : Core) (who : Role) (b : Begun) (plan : Plan) → IsInside (side_of core who) b plan → event core who ≡ event_by core who plan
@@ -110,15 +110,15 @@ stepped_next : (most : ℕ) (core : Core) (who : Role) (b : Begun) (plan : Plan)
 unfolding stepped
 stepped_next most core who b plan i more (answers answer) is later =
     let there : event core who ≡ with_side (carried_out core who (next_op plan)) who (answered (side_of (carried_out core who (next_op plan)) who) answer) =
-    event_inside core who b plan i ∙ event_by-answers core who plan answer is in
+    event_inside core who b plan i ∙ event_by_answers core who plan answer is in
     ap (λ (r : Option Answer). unless_answered r (event core who) (stepped most (event core who) who)) (next_answer core who b plan i (Some answer) (ap answer_in is))
-    ∙ ap (λ (k : Core). with_answer (k, answer)) there ∙ sym (ap with_answer (alone-answers (carried_out core who (next_op plan)) who answer))
-    ∙ sym (ap (λ (p : Plan). with_answer (alone (carried_out core who (next_op plan)) who p)) is) ∙ ap with_answer (alone-after core who plan more)
+    ∙ ap (λ (k : Core). with_answer (k, answer)) there ∙ sym (ap with_answer (alone_answers (carried_out core who (next_op plan)) who answer))
+    ∙ sym (ap (λ (p : Plan). with_answer (alone (carried_out core who (next_op plan)) who p)) is) ∙ ap with_answer (alone_after core who plan more)
 stepped_next most core who b plan i more (does op next) is later =
-    let there : event core who ≡ carried_out core who (next_op plan) = event_inside core who b plan i ∙ event_by-on core who plan (subst GoesOn (sym is) tt) in
+    let there : event core who ≡ carried_out core who (next_op plan) = event_inside core who b plan i ∙ event_by_on core who plan (subst GoesOn (sym is) tt) in
     ap (λ (r : Option Answer). unless_answered r (event core who) (stepped most (event core who) who)) (next_answer core who b plan i None (ap answer_in is))
     ∙ ap (λ (k : Core). stepped most k who) there ∙ later tt
-    ∙ sym (ap (λ (p : Plan). with_answer (alone (carried_out core who (next_op plan)) who p)) is) ∙ ap with_answer (alone-after core who plan more)
+    ∙ sym (ap (λ (p : Plan). with_answer (alone (carried_out core who (next_op plan)) who p)) is) ∙ ap with_answer (alone_after core who plan more)
 
 stepped_alone : (most : ℕ) (core : Core) (who : Role) (b : Begun) (plan : Plan) → IsInside (side_of core who) b plan → EndsWithin most plan → GoesOn plan →
     stepped most core who ≡ with_answer (alone core who plan)
@@ -137,7 +137,7 @@ stepped_out core who m h busy =
     let e : Standing = begun_standing s c.begun in
     let plan : Plan = rest_after (plan_of e c.begun.call) s.trail in
     let left : plan_left s ≡ plan = plan_inside s c.begun plan (record { call = c.is; left = refl }) in
-    let more : GoesOn plan = subst GoesOn (sym (plan_left-is s m c) ∙ left) (GoesOn-machine m busy) in
+    let more : GoesOn plan = subst GoesOn (sym (plan_left_is s m c) ∙ left) (GoesOn_machine m busy) in
     let ends : EndsWithin 4294967295 plan =
     more_time (most_events e c.begun.call) 4294967295 plan (few_events e c.begun.call) (ends_left (plan_of e c.begun.call) s.trail (most_events e c.begun.call) (ends_call e c.begun.call)) in
     stepped_alone 4294967295 core who c.begun plan (record { call = c.is; left = refl }) ends more ∙ sym (ap (λ (p : Plan). with_answer (alone core who p)) left)

@@ -20,7 +20,7 @@ use Rattle.vchan_protocol.specs.Table.Calls.{put_bytes, take_bytes, put_index, t
 use Rattle.vchan_protocol.specs.History.Core.{Core, side_of, standing_of, begun, begins, made, carried_out, answered, bytes_loaded, loaded_by}
 use Rattle.vchan_protocol.specs.Table.Ends.{Standing, ready_at, free_at, low16, low32}
 use Rattle.vchan_protocol.specs.Table.Plan.{Plan, answers, does, past, Leads}
-use Rattle.vchan_protocol.proofs.History.EventLaws.{side_of-with_side}
+use Rattle.vchan_protocol.proofs.History.EventLaws.{side_of_with_side}
 use Rattle.vchan_protocol.proofs.Table.Counted.{loaded_then}
 
 -- with that many bytes loaded so far, the plan answers Got only with the number that it has loaded then
@@ -251,25 +251,25 @@ got_by_trail e c events k trace = omega (arith, delivered_by (plan_of e c) event
 
 -- ---- whole calls
 
-bytes_loaded-append : (xs ys : List PastEvent) → bytes_loaded (xs ++ ys) ≡ bytes_loaded xs ++ bytes_loaded ys
-bytes_loaded-append [] ys = refl
-bytes_loaded-append (x ∷ xs) ys = ap (λ (l : List ℕ). loaded_by x.op x.taken ++ l) (bytes_loaded-append xs ys) ∙ sym (append_assoc (loaded_by x.op x.taken) (bytes_loaded xs) (bytes_loaded ys))
+bytes_loaded_append : (xs ys : List PastEvent) → bytes_loaded (xs ++ ys) ≡ bytes_loaded xs ++ bytes_loaded ys
+bytes_loaded_append [] ys = refl
+bytes_loaded_append (x ∷ xs) ys = ap (λ (l : List ℕ). loaded_by x.op x.taken ++ l) (bytes_loaded_append xs ys) ∙ sym (append_assoc (loaded_by x.op x.taken) (bytes_loaded xs) (bytes_loaded ys))
 
-length-loaded_by : (op : Op) (taken l : ℕ) → l + length (loaded_by op taken ++ []) ≡ loaded_then op l
-length-loaded_by (LoadByte word at) taken l = refl
-length-loaded_by (Load word) taken l = add-zero l
-length-loaded_by (Store word value) taken l = add-zero l
-length-loaded_by (StoreByte word at) taken l = add-zero l
-length-loaded_by (Or word bits) taken l = add-zero l
-length-loaded_by (And word bits) taken l = add-zero l
-length-loaded_by (Swap word value) taken l = add-zero l
-length-loaded_by Nothing taken l = add-zero l
+length_loaded_by : (op : Op) (taken l : ℕ) → l + length (loaded_by op taken ++ []) ≡ loaded_then op l
+length_loaded_by (LoadByte word at) taken l = refl
+length_loaded_by (Load word) taken l = add-zero l
+length_loaded_by (Store word value) taken l = add-zero l
+length_loaded_by (StoreByte word at) taken l = add-zero l
+length_loaded_by (Or word bits) taken l = add-zero l
+length_loaded_by (And word bits) taken l = add-zero l
+length_loaded_by (Swap word value) taken l = add-zero l
+length_loaded_by Nothing taken l = add-zero l
 
 -- one more event of a trail
-length-loaded-more : (trail : List PastEvent) (op : Op) (taken l : ℕ) → length (bytes_loaded trail) ≡ l → length (bytes_loaded (trail ++ past op taken ∷ [])) ≡ loaded_then op l
-length-loaded-more trail op taken l is =
-    ap length (bytes_loaded-append trail (past op taken ∷ [])) ∙ length-append (bytes_loaded trail) (loaded_by op taken ++ [])
-    ∙ ap (λ (n : ℕ). n + length (loaded_by op taken ++ [])) is ∙ length-loaded_by op taken l
+length_loaded_more : (trail : List PastEvent) (op : Op) (taken l : ℕ) → length (bytes_loaded trail) ≡ l → length (bytes_loaded (trail ++ past op taken ∷ [])) ≡ loaded_then op l
+length_loaded_more trail op taken l is =
+    ap length (bytes_loaded_append trail (past op taken ∷ [])) ∙ length-append (bytes_loaded trail) (loaded_by op taken ++ [])
+    ∙ ap (λ (n : ℕ). n + length (loaded_by op taken ++ [])) is ∙ length_loaded_by op taken l
 
 loaded_of : Core → Role → ℕ
 loaded_of core who = length (bytes_loaded (side_of core who).trail)
@@ -277,11 +277,11 @@ loaded_of core who = length (bytes_loaded (side_of core who).trail)
 got_alone : (plan : Plan) (core : Core) (who : Role) (l : ℕ) → Delivers l plan → loaded_of core who ≡ l → (k : ℕ) → (alone core who plan).1 ≡ Got k → loaded_of (alone core who plan).0 who ≡ k
 unfolding alone Delivers loaded_of
 got_alone (answers answer) core who l d summary k is =
-    ap (λ (s : Side). length (bytes_loaded s.trail)) (side_of-with_side core who (answered (side_of core who) answer)) ∙ summary ∙ d k is
+    ap (λ (s : Side). length (bytes_loaded s.trail)) (side_of_with_side core who (answered (side_of core who) answer)) ∙ summary ∙ d k is
 got_alone (does op next) core who l d summary k is =
     let value : ℕ = value_taken core.orders core.words op in
     let more : loaded_of (carried_out core who op) who ≡ loaded_then op l =
-    ap (λ (s : Side). length (bytes_loaded s.trail)) (side_of-with_side _ who (made (side_of core who) op value)) ∙ length-loaded-more (side_of core who).trail op value l summary in
+    ap (λ (s : Side). length (bytes_loaded s.trail)) (side_of_with_side _ who (made (side_of core who) op value)) ∙ length_loaded_more (side_of core who).trail op value l summary in
     got_alone (next value) (carried_out core who op) who (loaded_then op l) (d value) more k is
 
 -- the same of a whole call that is made alone
@@ -290,4 +290,4 @@ pub got_by_call : (core : Core) (who : Role) (c : Call) (payload : List ℕ) (k 
 unfolding loaded_of
 got_by_call core who c payload k is =
     got_alone (plan_of (standing_of (side_of core who)) c) (begun core who c payload) who 0 (delivers_call (standing_of (side_of core who)) c)
-    (ap (λ (s : Side). length (bytes_loaded s.trail)) (side_of-with_side core who (begins (side_of core who) c payload))) k is
+    (ap (λ (s : Side). length (bytes_loaded s.trail)) (side_of_with_side core who (begins (side_of core who) c payload))) k is

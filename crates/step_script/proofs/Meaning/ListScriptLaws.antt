@@ -95,8 +95,8 @@ calm_called core who call payload calm may =
 
 -- ---- which calls an end can make
 
-refused-apart : (why : Refusal) → ◌≡◌ {A = Option Refusal} (Some why) None → ⊥
-refused-apart why is = cc
+refused_apart : (why : Refusal) → ◌≡◌ {A = Option Refusal} (Some why) None → ⊥
+refused_apart why is = cc
 
 -- a call that nothing refuses is one that the end's state allows
 open_allows : (who : Role) (call : Call) → CanSay who call → state_refusal Open false call ≡ None → IsAllowed who Open call
@@ -107,39 +107,39 @@ open_allows who (Recv n) said is = tt
 open_allows who (Drain n) said is = said
 open_allows who DataReady said is = tt
 open_allows who BufferSpace said is = tt
-open_allows who Connect said is = absurd (refused-apart _ is)
+open_allows who Connect said is = absurd (refused_apart _ is)
 open_allows who Close said is = tt
 open_allows who TakeEvent said is = tt
 open_allows who Retire said is = tt
 open_allows who PeerGone said is = tt
 
 fresh_allows : (who : Role) (call : Call) → CanSay who call → state_refusal Fresh false call ≡ None → IsAllowed who Fresh call
-fresh_allows who (Write n) said is = absurd (refused-apart _ is)
-fresh_allows who (Send n) said is = absurd (refused-apart _ is)
-fresh_allows who (Read n) said is = absurd (refused-apart _ is)
-fresh_allows who (Recv n) said is = absurd (refused-apart _ is)
-fresh_allows who (Drain n) said is = absurd (refused-apart _ is)
-fresh_allows who DataReady said is = absurd (refused-apart _ is)
-fresh_allows who BufferSpace said is = absurd (refused-apart _ is)
+fresh_allows who (Write n) said is = absurd (refused_apart _ is)
+fresh_allows who (Send n) said is = absurd (refused_apart _ is)
+fresh_allows who (Read n) said is = absurd (refused_apart _ is)
+fresh_allows who (Recv n) said is = absurd (refused_apart _ is)
+fresh_allows who (Drain n) said is = absurd (refused_apart _ is)
+fresh_allows who DataReady said is = absurd (refused_apart _ is)
+fresh_allows who BufferSpace said is = absurd (refused_apart _ is)
 fresh_allows who Connect said is = subst (λ (r : Role). IsAllowed r Fresh Connect) (sym said) tt
 fresh_allows who Close said is = tt
-fresh_allows who TakeEvent said is = absurd (refused-apart _ is)
+fresh_allows who TakeEvent said is = absurd (refused_apart _ is)
 fresh_allows who Retire said is = tt
-fresh_allows who PeerGone said is = absurd (refused-apart _ is)
+fresh_allows who PeerGone said is = absurd (refused_apart _ is)
 
 shut_allows : (who : Role) (call : Call) → state_refusal Shut false call ≡ None → IsAllowed who Shut call
-shut_allows who (Write n) is = absurd (refused-apart _ is)
-shut_allows who (Send n) is = absurd (refused-apart _ is)
-shut_allows who (Read n) is = absurd (refused-apart _ is)
-shut_allows who (Recv n) is = absurd (refused-apart _ is)
-shut_allows who (Drain n) is = absurd (refused-apart _ is)
-shut_allows who DataReady is = absurd (refused-apart _ is)
-shut_allows who BufferSpace is = absurd (refused-apart _ is)
-shut_allows who Connect is = absurd (refused-apart _ is)
-shut_allows who Close is = absurd (refused-apart _ is)
-shut_allows who TakeEvent is = absurd (refused-apart _ is)
+shut_allows who (Write n) is = absurd (refused_apart _ is)
+shut_allows who (Send n) is = absurd (refused_apart _ is)
+shut_allows who (Read n) is = absurd (refused_apart _ is)
+shut_allows who (Recv n) is = absurd (refused_apart _ is)
+shut_allows who (Drain n) is = absurd (refused_apart _ is)
+shut_allows who DataReady is = absurd (refused_apart _ is)
+shut_allows who BufferSpace is = absurd (refused_apart _ is)
+shut_allows who Connect is = absurd (refused_apart _ is)
+shut_allows who Close is = absurd (refused_apart _ is)
+shut_allows who TakeEvent is = absurd (refused_apart _ is)
 shut_allows who Retire is = tt
-shut_allows who PeerGone is = absurd (refused-apart _ is)
+shut_allows who PeerGone is = absurd (refused_apart _ is)
 
 fresh_either : (retired : Bool) (call : Call) → state_refusal Fresh retired call ≡ None → state_refusal Fresh false call ≡ None
 fresh_either true call is = is
@@ -153,7 +153,7 @@ state_allows : (who : Role) (state : EndState) (retired : Bool) (call : Call) �
 state_allows who Fresh retired call said is = fresh_allows who call said (fresh_either retired call is)
 state_allows who Open retired call said is = open_allows who call said (open_either retired call is)
 state_allows who Shut false call said is = shut_allows who call is
-state_allows who Shut true call said is = absurd (refused-apart _ is)
+state_allows who Shut true call said is = absurd (refused_apart _ is)
 
 may_begin : (core : Core) (who : Role) (c : StepCall) → IsCalm core → CallFits who c → list_refusal (end_of (lists_of core) who) c.call ≡ None → MayBegin who (side_of core who) c.call c.payload
 may_begin core Server c calm fits is = record { idle = calm.idle Server; allowed = state_allows Server core.server.state _ c.call fits.said is; pays = fits.payload; bytes = fits.bytes }

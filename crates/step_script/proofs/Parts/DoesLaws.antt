@@ -20,7 +20,7 @@ use Rattle.vchan_protocol.specs.History.Core.{Core, side_of, bytes_loaded, begun
 use Rattle.vchan_core.specs.Page.StandsFor.{IsInCall, StandsFor, machine_of, other_of}
 use Rattle.vchan_core.specs.OneMachine.Phases.{IsIdle, payload_needed, buffer_needed, payload_at, buffer_at, standing}
 use Rattle.vchan_protocol.specs.Table.Ends.{read_size}
-use Rattle.vchan_protocol.proofs.History.EventLaws.{side_of-with_side}
+use Rattle.vchan_protocol.proofs.History.EventLaws.{side_of_with_side}
 use Rattle.vchan_core.proofs.WholeCall.RunLaws.{machine_stands}
 use Rattle.step_script.specs.declared.player.end_player.EndPlayer.{EndPlayer}
 use Rattle.step_script.specs.declared.player.refusal.Refusal.{Refusal}
@@ -131,16 +131,16 @@ does_allowed who why act page page' end_player end_player' text text' is d = rec
 
 -- ---- the parts of a call
 
-some-apart : (c : Call) → ◌≡◌ {A = Option Call} None (Some c) → ⊥
-some-apart c is = cc
+some_apart : (c : Call) → ◌≡◌ {A = Option Call} None (Some c) → ⊥
+some_apart c is = cc
 
-some-inj : (x y : Call) → Some x ≡ Some y → x ≡ y
-some-inj x y is = cc
+some_inj : (x y : Call) → Some x ≡ Some y → x ≡ y
+some_inj x y is = cc
 
 -- what holds of each begun call that is this one, holds of an end that is inside this one
 inside : (s : Side) (call : Option Begun) (c : Call) → option_map (λ (b : Begun). b.call) call ≡ Some c → (P : Option Begun → Type 0) → ((b : Begun) → c ≡ b.call → P (Some b)) → P call
-inside s None c is P holds = absurd (some-apart c is)
-inside s (Some b) c is P holds = holds b (sym (some-inj b.call c is))
+inside s None c is P holds = absurd (some_apart c is)
+inside s (Some b) c is P holds = holds b (sym (some_inj b.call c is))
 
 -- the rest of a call, with its answer
 pub does_finish : (who : Role) (page page' : Plain) (end_player end_player' : EndPlayer) (text text' : List ℕ) (result : Answer) → ¬ IsIdle (machine_of page who)
@@ -236,7 +236,7 @@ pub does_begin : (who : Role) (c : StepCall) (page page' : Plain) (end_player en
 does_begin who c page page' end_player end_player' text fits stands out into call payload other = record {
   at = λ core h. record {
     stands = stands core c.payload h.stands fits;
-    held = subst (λ (s : Side). IsHeld s (machine_of page' who) end_player') (sym (side_of-with_side core who _)) (record {
+    held = subst (λ (s : Side). IsHeld s (machine_of page' who) end_player') (sym (side_of_with_side core who _)) (record {
       call = λ busy. ap (λ (k : Call). Some k) (sym call);
       payload = λ busy. sym payload;
       payload_left = out;

@@ -31,12 +31,12 @@ if_some (Some a) P all = all a refl
 -- ---- the bytes that are taken
 
 -- a buffer that was filled begins with what it was filled with
-pub filled-twice : (buffer bytes : List ℕ) → filled buffer bytes ≡ filled (filled buffer bytes) bytes
-filled-twice buffer bytes = sym (ap (λ (l : List ℕ). bytes ++ l) (drop-append_seam bytes (drop (length bytes) buffer)))
+pub filled_twice : (buffer bytes : List ℕ) → filled buffer bytes ≡ filled (filled buffer bytes) bytes
+filled_twice buffer bytes = sym (ap (λ (l : List ℕ). bytes ++ l) (drop-append_seam bytes (drop (length bytes) buffer)))
 
 pub has_filled : (trail : List PastEvent) (old new : List ℕ) → new ≡ filled old (bytes_loaded trail) → HasLoaded trail new
 has_filled trail old new is =
-    is ∙ filled-twice old (bytes_loaded trail) ∙ ap (λ (l : List ℕ). filled l (bytes_loaded trail)) (sym is)
+    is ∙ filled_twice old (bytes_loaded trail) ∙ ap (λ (l : List ℕ). filled l (bytes_loaded trail)) (sym is)
 
 got_len_is : (answer : Answer) (bytes rest : List ℕ) → ((k : ℕ) → answer ≡ Got k → length bytes ≡ k) → count_got answer ≤ length (bytes ++ rest)
 got_len_is (Got k) bytes rest is = omega (arith, is k refl, length-append bytes rest)

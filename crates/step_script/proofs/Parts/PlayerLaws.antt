@@ -25,7 +25,7 @@ use Rattle.vchan_core.specs.Page.StandsFor.{IsMachineOf, StandsFor, machine_of, 
 use Rattle.vchan_protocol.specs.Table.Plan.{Plan, answers, does, past}
 use Rattle.vchan_protocol.specs.Table.Ends.{peer_pending, written_ring}
 use Rattle.vchan_protocol.specs.Hostile.Turned.{turned_side, strays, turns, strayed}
-use Rattle.vchan_protocol.proofs.History.EventLaws.{side_of-with_side}
+use Rattle.vchan_protocol.proofs.History.EventLaws.{side_of_with_side}
 use Rattle.vchan_core.proofs.WholeCall.RunLaws.{machine_stands}
 use Rattle.step_script.specs.declared.player.end_player.EndPlayer.{EndPlayer}
 use Rattle.step_script.specs.declared.player.Player.{Player}
@@ -44,100 +44,100 @@ abbrev pub other_side : Core → Role → Side
 other_side core Server = core.client
 other_side core Client = core.server
 
-with_side-other : (core : Core) (who : Role) (s : Side) → other_side (with_side core who s) who ≡ other_side core who
-with_side-other core Server s = refl
-with_side-other core Client s = refl
+with_side_other : (core : Core) (who : Role) (s : Side) → other_side (with_side core who s) who ≡ other_side core who
+with_side_other core Server s = refl
+with_side_other core Client s = refl
 
-words-other : (core : Core) (who : Role) (words : List ℕ) → other_side (record core { words = words }) who ≡ other_side core who
-words-other core Server words = refl
-words-other core Client words = refl
+words_other : (core : Core) (who : Role) (words : List ℕ) → other_side (record core { words = words }) who ≡ other_side core who
+words_other core Server words = refl
+words_other core Client words = refl
 
-with_side-orders : (core : Core) (who : Role) (s : Side) → (with_side core who s).orders ≡ core.orders
-with_side-orders core Server s = refl
-with_side-orders core Client s = refl
+with_side_orders : (core : Core) (who : Role) (s : Side) → (with_side core who s).orders ≡ core.orders
+with_side_orders core Server s = refl
+with_side_orders core Client s = refl
 
 -- anything that neither the words nor this end's own side changes
 module _ {X : Type 0} (who : Role) (f : Core → X) (side : (core : Core) (s : Side) → f (with_side core who s) ≡ f core) (word : (core : Core) (words : List ℕ) → f (record core { words = words }) ≡ f core) where
-  alone-kept : (plan : Plan) (core : Core) → f (alone core who plan).0 ≡ f core
+  alone_kept : (plan : Plan) (core : Core) → f (alone core who plan).0 ≡ f core
   unfolding alone
-  alone-kept (answers answer) core = side core _
-  alone-kept (does op next) core = alone-kept (next (value_taken core.orders core.words op)) (carried_out core who op) ∙ side _ _ ∙ word core _
+  alone_kept (answers answer) core = side core _
+  alone_kept (does op next) core = alone_kept (next (value_taken core.orders core.words op)) (carried_out core who op) ∙ side _ _ ∙ word core _
 
-  event-kept : (core : Core) → f (event core who) ≡ f core
+  event_kept : (core : Core) → f (event core who) ≡ f core
   unfolding event
-  event-kept core = side _ _ ∙ word core _
+  event_kept core = side _ _ ∙ word core _
 
-  unless_answered-kept : (r : Option Answer) (core now : Core) (later : Core × Option Answer) → f now ≡ f core → f later.0 ≡ f core → f (unless_answered r now later).0 ≡ f core
-  unless_answered-kept None core now later a b = b
-  unless_answered-kept (Some answer) core now later a b = a
+  unless_answered_kept : (r : Option Answer) (core now : Core) (later : Core × Option Answer) → f now ≡ f core → f later.0 ≡ f core → f (unless_answered r now later).0 ≡ f core
+  unless_answered_kept None core now later a b = b
+  unless_answered_kept (Some answer) core now later a b = a
 
-  stepped-kept : (most : ℕ) (core : Core) → f (stepped most core who).0 ≡ f core
+  stepped_kept : (most : ℕ) (core : Core) → f (stepped most core who).0 ≡ f core
   unfolding stepped
-  stepped-kept zero core = refl
-  stepped-kept (suc most) core =
-      unless_answered-kept (answer_in (plan_next core who)) core (event core who) (stepped most (event core who) who) (event-kept core) (stepped-kept most (event core who) ∙ event-kept core)
+  stepped_kept zero core = refl
+  stepped_kept (suc most) core =
+      unless_answered_kept (answer_in (plan_next core who)) core (event core who) (stepped most (event core who) who) (event_kept core) (stepped_kept most (event core who) ∙ event_kept core)
 
-  finishes_call-kept : (call : Option Begun) (core : Core) → f (finishes_call who call core).core ≡ f core
-  finishes_call-kept None core = refl
-  finishes_call-kept (Some b) core = alone-kept (plan_left (side_of core who)) core
+  finishes_call_kept : (call : Option Begun) (core : Core) → f (finishes_call who call core).core ≡ f core
+  finishes_call_kept None core = refl
+  finishes_call_kept (Some b) core = alone_kept (plan_left (side_of core who)) core
 
-  refused-kept : (why : Option Refusal) (core : Core) (act : Core → Outcome) → f (act core).core ≡ f core → f (unless_refused why who core act).core ≡ f core
-  refused-kept None core act is = is
-  refused-kept (Some reason) core act is = refl
+  refused_kept : (why : Option Refusal) (core : Core) (act : Core → Outcome) → f (act core).core ≡ f core → f (unless_refused why who core act).core ≡ f core
+  refused_kept None core act is = is
+  refused_kept (Some reason) core act is = refl
 
-  stops-kept : (call : Call) (core : Core) (r : Option Answer) → f (stops_with who call core r).core ≡ f core
-  stops-kept call core None = refl
-  stops-kept call core (Some answer) = refl
+  stops_kept : (call : Call) (core : Core) (r : Option Answer) → f (stops_with who call core r).core ≡ f core
+  stops_kept call core None = refl
+  stops_kept call core (Some answer) = refl
 
-  steps_call-kept : (most : ℕ) (call : Option Begun) (core : Core) → f (steps_call who most call core).core ≡ f core
-  steps_call-kept most None core = refl
-  steps_call-kept most (Some b) core = stops-kept b.call (stepped most core who).0 (stepped most core who).1 ∙ stepped-kept most core
+  steps_call_kept : (most : ℕ) (call : Option Begun) (core : Core) → f (steps_call who most call core).core ≡ f core
+  steps_call_kept most None core = refl
+  steps_call_kept most (Some b) core = stops_kept b.call (stepped most core who).0 (stepped most core who).1 ∙ stepped_kept most core
 
-  call-kept : (c : StepCall) (core : Core) → f (line_done (calls who c) core).core ≡ f core
-  call-kept c core =
+  call_kept : (c : StepCall) (core : Core) → f (line_done (calls who c) core).core ≡ f core
+  call_kept c core =
       let behind : Core = (finished who core).core in
-      refused-kept (call_refusal behind who c.call) behind (makes_call who c) (alone-kept (plan_of (standing_of (side_of behind who)) c.call) (begun behind who c.call c.payload) ∙ side behind _)
-      ∙ finishes_call-kept (side_of core who).call core
+      refused_kept (call_refusal behind who c.call) behind (makes_call who c) (alone_kept (plan_of (standing_of (side_of behind who)) c.call) (begun behind who c.call c.payload) ∙ side behind _)
+      ∙ finishes_call_kept (side_of core who).call core
 
-  begin-kept : (c : StepCall) (core : Core) → f (line_done (begins who c) core).core ≡ f core
-  begin-kept c core =
+  begin_kept : (c : StepCall) (core : Core) → f (line_done (begins who c) core).core ≡ f core
+  begin_kept c core =
       let behind : Core = (finished who core).core in
-      refused-kept (call_refusal behind who c.call) behind (begins_call who c) (side behind _) ∙ finishes_call-kept (side_of core who).call core
+      refused_kept (call_refusal behind who c.call) behind (begins_call who c) (side behind _) ∙ finishes_call_kept (side_of core who).call core
 
-  step-kept : (most : ℕ) (core : Core) → f (line_done (steps who most) core).core ≡ f core
-  step-kept most core = refused-kept (step_refusal (side_of core who)) core (steps_on who most) (steps_call-kept most (side_of core who).call core)
+  step_kept : (most : ℕ) (core : Core) → f (line_done (steps who most) core).core ≡ f core
+  step_kept most core = refused_kept (step_refusal (side_of core who)) core (steps_on who most) (steps_call_kept most (side_of core who).call core)
 
-  finish-kept : (core : Core) → f (line_done (finishes who) core).core ≡ f core
-  finish-kept core = refused-kept (step_refusal (side_of core who)) core (finished who) (finishes_call-kept (side_of core who).call core)
+  finish_kept : (core : Core) → f (line_done (finishes who) core).core ≡ f core
+  finish_kept core = refused_kept (step_refusal (side_of core who)) core (finished who) (finishes_call_kept (side_of core who).call core)
 
-  stray-kept : (op : Op) (core : Core) → f (strayed core who op) ≡ f core
-  stray-kept op core = side _ _ ∙ word core _
+  stray_kept : (op : Op) (core : Core) → f (strayed core who op) ≡ f core
+  stray_kept op core = side _ _ ∙ word core _
 
 -- what is done at an end leaves the other as it was
 abbrev pub Keeps : Role → (Core → Outcome) → Type 0
 Keeps who act = (core : Core) → other_side (act core).core who ≡ other_side core who
 
 pub keeps_call : (who : Role) (c : StepCall) → Keeps who (line_done (calls who c))
-keeps_call who c = call-kept who (λ (k : Core). other_side k who) (λ core s. with_side-other core who s) (λ core words. words-other core who words) c
+keeps_call who c = call_kept who (λ (k : Core). other_side k who) (λ core s. with_side_other core who s) (λ core words. words_other core who words) c
 
 pub keeps_begin : (who : Role) (c : StepCall) → Keeps who (line_done (begins who c))
-keeps_begin who c = begin-kept who (λ (k : Core). other_side k who) (λ core s. with_side-other core who s) (λ core words. words-other core who words) c
+keeps_begin who c = begin_kept who (λ (k : Core). other_side k who) (λ core s. with_side_other core who s) (λ core words. words_other core who words) c
 
 pub keeps_step : (who : Role) (most : ℕ) → Keeps who (line_done (steps who most))
-keeps_step who most = step-kept who (λ (k : Core). other_side k who) (λ core s. with_side-other core who s) (λ core words. words-other core who words) most
+keeps_step who most = step_kept who (λ (k : Core). other_side k who) (λ core s. with_side_other core who s) (λ core words. words_other core who words) most
 
 pub keeps_finish : (who : Role) → Keeps who (line_done (finishes who))
-keeps_finish who = finish-kept who (λ (k : Core). other_side k who) (λ core s. with_side-other core who s) (λ core words. words-other core who words)
+keeps_finish who = finish_kept who (λ (k : Core). other_side k who) (λ core s. with_side_other core who s) (λ core words. words_other core who words)
 
 -- no line changes the orders of the page
 pub orders_kept : (line : StepLine) (core : Core) → (line_done line core).core.orders ≡ core.orders
 orders_kept (opens opening) core = refl
-orders_kept (calls who c) core = call-kept who (λ (k : Core). k.orders) (λ k s. with_side-orders k who s) (λ k words. refl) c core
-orders_kept (begins who c) core = begin-kept who (λ (k : Core). k.orders) (λ k s. with_side-orders k who s) (λ k words. refl) c core
-orders_kept (steps who most) core = step-kept who (λ (k : Core). k.orders) (λ k s. with_side-orders k who s) (λ k words. refl) most core
-orders_kept (finishes who) core = finish-kept who (λ (k : Core). k.orders) (λ k s. with_side-orders k who s) (λ k words. refl) core
-orders_kept (pokes who word value) core = stray-kept who (λ (k : Core). k.orders) (λ k s. with_side-orders k who s) (λ k words. refl) (Store word value) core
-orders_kept (signals who) core = stray-kept who (λ (k : Core). k.orders) (λ k s. with_side-orders k who s) (λ k words. refl) (Store (peer_pending who) 1) core
+orders_kept (calls who c) core = call_kept who (λ (k : Core). k.orders) (λ k s. with_side_orders k who s) (λ k words. refl) c core
+orders_kept (begins who c) core = begin_kept who (λ (k : Core). k.orders) (λ k s. with_side_orders k who s) (λ k words. refl) c core
+orders_kept (steps who most) core = step_kept who (λ (k : Core). k.orders) (λ k s. with_side_orders k who s) (λ k words. refl) most core
+orders_kept (finishes who) core = finish_kept who (λ (k : Core). k.orders) (λ k s. with_side_orders k who s) (λ k words. refl) core
+orders_kept (pokes who word value) core = stray_kept who (λ (k : Core). k.orders) (λ k s. with_side_orders k who s) (λ k words. refl) (Store word value) core
+orders_kept (signals who) core = stray_kept who (λ (k : Core). k.orders) (λ k s. with_side_orders k who s) (λ k words. refl) (Store (peer_pending who) 1) core
 orders_kept head core = refl
 orders_kept image core = refl
 
@@ -208,9 +208,9 @@ plays_print act player player' line is page server client printed = record {
 
 -- ---- an end that is turned
 
-loaded-push : (trail : List PastEvent) (word : WordName) (value taken : ℕ) → bytes_loaded (trail ++ past (Store word value) taken ∷ []) ≡ bytes_loaded trail
-loaded-push [] word value taken = refl
-loaded-push (event ∷ events) word value taken = ap (λ (l : List ℕ). loaded_by event.op event.taken ++ l) (loaded-push events word value taken)
+loaded_push : (trail : List PastEvent) (word : WordName) (value taken : ℕ) → bytes_loaded (trail ++ past (Store word value) taken ∷ []) ≡ bytes_loaded trail
+loaded_push [] word value taken = refl
+loaded_push (event ∷ events) word value taken = ap (λ (l : List ℕ). loaded_by event.op event.taken ++ l) (loaded_push events word value taken)
 
 loaded_given : (turned : Bool) (s : Side) (consumed : ℕ) (buffer : List ℕ) → HasLoaded s.trail buffer → HasLoaded (if turned then s else turns s consumed).trail buffer
 loaded_given true s consumed buffer loaded = loaded
@@ -221,13 +221,13 @@ held_strayed : (core : Core) (who : Role) (word : WordName) (value : ℕ) (page'
 held_strayed core who word value page' end_player stood loaded =
     let s : Side = turned_side (side_of core who) (length (reader_of core (written_ring who)).got) in
     let taken : ℕ = value_taken core.orders core.words (Store word value) in
-    let is : side_of (strayed core who (Store word value)) who ≡ strays s (Store word value) taken = side_of-with_side _ who (strays s (Store word value) taken) in
+    let is : side_of (strayed core who (Store word value)) who ≡ strays s (Store word value) taken = side_of_with_side _ who (strays s (Store word value) taken) in
     let machine : IsMachineOf (strays s (Store word value) taken) (machine_of page' who) =
     subst (λ (x : Side). IsMachineOf x (machine_of page' who)) is (machine_stands (strayed core who (Store word value)) page' who stood) in
     let given : HasLoaded s.trail end_player.buffer.items = loaded_given (side_of core who).turned (side_of core who) (length (reader_of core (written_ring who)).got) end_player.buffer.items loaded in
     subst (λ (x : Side). IsHeld x (machine_of page' who) end_player) (sym is)
     (held_idle (strays s (Store word value) taken) (machine_of page' who) end_player machine.in_call
-    (given ∙ ap (λ (l : List ℕ). filled end_player.buffer.items l) (sym (loaded-push s.trail word value taken))))
+    (given ∙ ap (λ (l : List ℕ). filled end_player.buffer.items l) (sym (loaded_push s.trail word value taken))))
 
 does_stray : (who : Role) (word : WordName) (value : ℕ) (page page' : Plain) (end_player : EndPlayer) (text : List ℕ) → ((core : Core) → StandsFor core page → StandsFor (strayed core who (Store word value)) page') →
     other_of page' who ≡ other_of page who → Does who (λ core. quiet (strayed core who (Store word value))) page page' end_player end_player text text
@@ -255,13 +255,13 @@ pub record IsPlaying (script : List StepLine) (player : Player) (rest : List Ste
   pub fit : All (LineFits core.orders) rest
   pub played : player.text.items ++ text_of (plays rest core) ≡ step_text script
 
-plays-cons : (line : StepLine) (more : List StepLine) (core : Core) → plays (line ∷ more) core ≡ (line_done line core).lines ++ plays more (line_done line core).core
+plays_cons : (line : StepLine) (more : List StepLine) (core : Core) → plays (line ∷ more) core ≡ (line_done line core).lines ++ plays more (line_done line core).core
 unfolding plays
-plays-cons line more core = refl
+plays_cons line more core = refl
 
-plays-end : (core : Core) → plays [] core ≡ ring_line core Left ∷ ring_line core Right ∷ []
+plays_end : (core : Core) → plays [] core ≡ ring_line core Left ∷ ring_line core Right ∷ []
 unfolding plays
-plays-end core = refl
+plays_end core = refl
 
 -- nothing is played yet
 pub playing_first : (script : List StepLine) (o : Opening) (player : Player) (rest : List StepLine) → script ≡ opens o ∷ rest → All (LineFits o.orders) rest → IsPlayedTo (opened o.orders o.start o.said o.state) player → player.text.items ≡ [] →
@@ -285,7 +285,7 @@ pub played_on : (player player' : Player) (line : StepLine) (rest : List StepLin
 played_on player player' line rest core at p =
     let after : Core = (line_done line core).core in
     ap (λ (l : List ℕ). l ++ text_of (plays rest after)) (p.prints core at) ∙ append_assoc player.text.items (text_of (line_done line core).lines) (text_of (plays rest after))
-    ∙ ap (λ (l : List ℕ). player.text.items ++ l) (sym (flat_map-append line_text (line_done line core).lines (plays rest after)) ∙ sym (ap text_of (plays-cons line rest core)))
+    ∙ ap (λ (l : List ℕ). player.text.items ++ l) (sym (flat_map-append line_text (line_done line core).lines (plays rest after)) ∙ sym (ap text_of (plays_cons line rest core)))
 
 -- one more line is played
 pub playing_on : (script : List StepLine) (player player' : Player) (line : StepLine) (rest rest' : List StepLine) → IsPlaying script player rest → rest ≡ line ∷ rest' → Plays (line_done line) player player' →
@@ -307,4 +307,4 @@ ended core text first second left right =
     let one : List ℕ = line_text (ring_line core Left) in
     let two : List ℕ = line_text (ring_line core Right) in
     right ∙ ap (λ (l : List ℕ). l ++ two) left ∙ append_assoc text one two ∙ ap (λ (l : List ℕ). text ++ (one ++ l)) (sym (append-nil two))
-    ∙ ap (λ (l : List TextLine). text ++ text_of l) (sym (plays-end core))
+    ∙ ap (λ (l : List TextLine). text ++ text_of l) (sym (plays_end core))

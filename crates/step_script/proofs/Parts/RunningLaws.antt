@@ -47,9 +47,9 @@ pub record IsRunning (bytes : List ℕ) (o : Opening) (player : Player) (room : 
   pub orders : core.orders ≡ o.orders
   pub played : (rest : List StepLine) → player.text.items ++ text_of (plays rest core) ≡ step_text (opens o ∷ front ++ rest)
 
-behind-nil : (lines : Result (List StepLine) (ℕ × ScriptKind)) → behind [] lines ≡ lines
-behind-nil (Ok lines) = refl
-behind-nil (Err bad) = refl
+behind_nil : (lines : Result (List StepLine) (ℕ × ScriptKind)) → behind [] lines ≡ lines
+behind_nil (Ok lines) = refl
+behind_nil (Err bad) = refl
 
 none_fit : (orders : Orders) → All (LineFits orders) []
 none_fit orders = λ i x within. absurd (omega (arith, within))
@@ -60,7 +60,7 @@ pub running_first : (bytes : List ℕ) (o : Opening) (player : Player) (lines le
 running_first bytes o player lines left is head at none = record {
   due = lines_from o.orders 8388608 left;
   front = [];
-  read = behind-nil (lines_from o.orders 8388608 left);
+  read = behind_nil (lines_from o.orders 8388608 left);
   whole = sym (is ∙ ap (λ (r : Result (Opening × Lines) (ℕ × ScriptKind)). r >>= (λ h. lines_from h.0.orders 8388608 h.1 >>= (λ rest. Ok (opens h.0 ∷ rest)))) head);
   fit = none_fit o.orders;
   core = opened o.orders o.start o.said o.state;

@@ -20,10 +20,10 @@ use Rattle.vchan_protocol.specs.Honest.RingLaw.{AreBytes}
 use Rattle.vchan_protocol.specs.Honest.Reached.{MayBegin}
 use Rattle.vchan_protocol.specs.Hostile.TurnedLaw.{TurnedLawful}
 use Rattle.vchan_protocol.specs.Always.Invariant.{Invariant}
-use Rattle.vchan_core.proofs.OneMachine.PhaseLaws.{GoesOn-machine}
-use Rattle.vchan_core.proofs.Page.StepLaws.{in_call, plan_left-is}
+use Rattle.vchan_core.proofs.OneMachine.PhaseLaws.{GoesOn_machine}
+use Rattle.vchan_core.proofs.Page.StepLaws.{in_call, plan_left_is}
 use Rattle.vchan_core.proofs.WholeCall.RunLaws.{machine_stands}
-use Rattle.vchan_protocol.proofs.History.WholeCallLaws.{length-payload}
+use Rattle.vchan_protocol.proofs.History.WholeCallLaws.{length_payload}
 use Rattle.vchan_protocol.proofs.Always.InvariantSteps.{invariant_begun, invariant_event}
 use Rattle.vchan_protocol.proofs.History.WholeCallSteps.{invariant_called}
 use Rattle.std.proofs.Common.{◌≡◌, ℕ, ◌<◌, ◌≤◌, false, List, length, take, refl, subst, sym, ◌∙◌, arith}
@@ -76,7 +76,7 @@ invariant_begin core page who call payload h honest allows pays bytes kept =
 -- a busy machine has an event left, and so has its end
 pub goes_on_stands : (core : Core) (page : Plain) (who : Role) → StandsFor core page → ¬ IsIdle (machine_of page who) → GoesOn (plan_left (side_of core who))
 goes_on_stands core page who h busy =
-    subst GoesOn (sym (plan_left-is (side_of core who) (machine_of page who) (in_call (side_of core who) (machine_of page who) (machine_stands core page who h) busy))) (GoesOn-machine (machine_of page who) busy)
+    subst GoesOn (sym (plan_left_is (side_of core who) (machine_of page who) (in_call (side_of core who) (machine_of page who) (machine_stands core page who h) busy))) (GoesOn_machine (machine_of page who) busy)
 
 pub invariant_step : (core : Core) (page : Plain) (who : Role) → StandsFor core page → turned_of page who ≡ false → ¬ IsIdle (machine_of page who) → Invariant core → Invariant (event core who)
 invariant_step core page who h honest busy kept = invariant_event core who kept (turned_stands core page who h honest) (goes_on_stands core page who h busy)
@@ -87,7 +87,7 @@ pub invariant_call : (core : Core) (page : Plain) (who : Role) (call : Call) (so
     Invariant core → Invariant (called core who call (take (payload_of call) source))
 invariant_call core page who call source h honest allows enough bytes kept =
     invariant_called core who call (take (payload_of call) source) kept (turned_stands core page who h honest)
-    (may_begin core page who call (take (payload_of call) source) h kept allows (length-payload call source enough) (All-take (λ (byte : ℕ). byte < 256) (payload_of call) source (λ k d below. subst (λ (byte : ℕ). byte < 256) (get_or_default source k 0 d below) (bytes k))))
+    (may_begin core page who call (take (payload_of call) source) h kept allows (length_payload call source enough) (All-take (λ (byte : ℕ). byte < 256) (payload_of call) source (λ k d below. subst (λ (byte : ℕ). byte < 256) (get_or_default source k 0 d below) (bytes k))))
 
 -- ---- whole calls are calls on lists
 

@@ -4,7 +4,7 @@ use Rattle.std.proofs.lemmas.List.{length-take, length-append}
 use Rattle.std.proofs.lemmas.Bool.{false≢true}
 use Rattle.std.proofs.lemmas.Bool.Decides.{nat_tests}
 use Rattle.ring_words.specs.Rings.{diff}
-use Rattle.ring_words.proofs.RingLaws.{diff-wraps}
+use Rattle.ring_words.proofs.RingLaws.{diff_wraps}
 use Rattle.ring_words.specs.declared.order.Orders.{Orders}
 use Rattle.ring_words.specs.declared.page.Role.{Role}
 use Rattle.ring_words.specs.declared.page.Role.TheVariants.{Server, Client}
@@ -32,10 +32,10 @@ use Rattle.vchan_protocol.specs.History.Core.{Core, side_of, event, plan_next, b
 use Rattle.vchan_core.specs.Page.Counts.{capped}
 use Rattle.vchan_core.specs.WholeCall.AtPhase.{page_at, page_to}
 use Rattle.vchan_core.specs.Page.StandsFor.{IsInCall, IsMachineOf, HasPayload, StandsFor, orders_of, words_of}
-use Rattle.vchan_protocol.proofs.Table.PlanLaws.{Leads-more, rest_after-Leads}
-use Rattle.vchan_core.proofs.OneMachine.PhaseLaws.{GoesOn-machine}
-use Rattle.vchan_protocol.proofs.Table.Counted.{Counted, OwesIndex, counted_call, counts_within, Counted-Leads}
-use Rattle.vchan_protocol.proofs.History.EventLaws.{owes_next, leaves_same, stored_most-payload, most_small, OwesNext, settled-on, settled-sent, settled-got, settled-turned, standing_of-made, standing_along-push, prod-after, cons-after, side_by, event_by, diff-same}
+use Rattle.vchan_protocol.proofs.Table.PlanLaws.{Leads_more, rest_after_Leads}
+use Rattle.vchan_core.proofs.OneMachine.PhaseLaws.{GoesOn_machine}
+use Rattle.vchan_protocol.proofs.Table.Counted.{Counted, OwesIndex, counted_call, counts_within, Counted_Leads}
+use Rattle.vchan_protocol.proofs.History.EventLaws.{owes_next, leaves_same, stored_most_payload, most_small, OwesNext, settled_on, settled_sent, settled_got, settled_turned, standing_of_made, standing_along_push, prod_after_lem, cons_after_lem, side_by, event_by, diff_same}
 
 -- the call that a busy machine is in, as a record
 pub record InCall (s : Side) (m : Machine) : Type 0 where
@@ -53,10 +53,10 @@ in_call s m h busy = go s.call refl h.in_call
     go (Some b) e inside = record { begun = b; is = e; led = inside.1; pays = inside.2; stands = inside.3 }
 
 -- what is left of the end's call is what the machine has left
-pub plan_left-is : (s : Side) (m : Machine) → InCall s m → plan_left s ≡ rest m
-plan_left-is s m c =
+pub plan_left_is : (s : Side) (m : Machine) → InCall s m → plan_left s ≡ rest m
+plan_left_is s m c =
     subst (λ (call : Option Begun). elim call [ None ↦ answers Done | Some b ↦ rest_after (plan_of (begun_standing s b) b.call) s.trail ] ≡ rest m) (sym c.is)
-    (rest_after-Leads (plan_of (begun_standing s c.begun) c.begun.call) s.trail (rest m) c.led)
+    (rest_after_Leads (plan_of (begun_standing s c.begun) c.begun.call) s.trail (rest m) c.led)
 
 -- ---- the next event, counted
 
@@ -67,11 +67,11 @@ owed s m c busy =
     let into = loaded_most e c.begun.call in
     let stored : 0 + count_stored s.trail ≡ count_stored s.trail = omega arith in
     let loaded : 0 + length (bytes_loaded s.trail) ≡ length (bytes_loaded s.trail) = omega arith in
-    let there = Counted-Leads e out into e 0 0 (plan_of e c.begun.call) s.trail (rest m) (counted_call e c.begun.call) c.led in
+    let there = Counted_Leads e out into e 0 0 (plan_of e c.begun.call) s.trail (rest m) (counted_call e c.begun.call) c.led in
     let one = subst (λ (x : ℕ). Counted e out into (standing_along e s.trail) x (0 + length (bytes_loaded s.trail)) (rest m)) stored there in
     let two = subst (λ (x : ℕ). Counted e out into (standing_along e s.trail) (count_stored s.trail) x (rest m)) loaded one in
     let here = subst (λ (x : Standing). Counted e out into x (count_stored s.trail) (length (bytes_loaded s.trail)) (rest m)) c.stands two in
-    owes_next e out into (standing_of s) (count_stored s.trail) (length (bytes_loaded s.trail)) (rest m) here (GoesOn-machine m busy)
+    owes_next e out into (standing_of s) (count_stored s.trail) (length (bytes_loaded s.trail)) (rest m) here (GoesOn_machine m busy)
 
 -- ---- the words
 
@@ -96,25 +96,25 @@ made_stands s m m' result taken h busy leads idle stands = go result leads idle
     c = in_call s m h busy
 
     now : standing m' ≡ standing_of (made s (next_op (rest m)) taken)
-    now = stands ∙ ap (λ (e : Standing). standing_after e (next_op (rest m))) h.standing_is ∙ sym (standing_of-made s (next_op (rest m)) taken)
+    now = stands ∙ ap (λ (e : Standing). standing_after e (next_op (rest m))) h.standing_is ∙ sym (standing_of_made s (next_op (rest m)) taken)
 
     trail_leads : Leads (plan_of (begun_standing s c.begun) c.begun.call) (s.trail ++ past (next_op (rest m)) taken ∷ []) (after (rest m) taken)
-    trail_leads = Leads-more (plan_of (begun_standing s c.begun) c.begun.call) s.trail (rest m) taken (GoesOn-machine m busy) c.led
+    trail_leads = Leads_more (plan_of (begun_standing s c.begun) c.begun.call) s.trail (rest m) taken (GoesOn_machine m busy) c.led
 
     along : standing_along (begun_standing s c.begun) (s.trail ++ past (next_op (rest m)) taken ∷ []) ≡ standing_of (made s (next_op (rest m)) taken)
     along =
-        standing_along-push (begun_standing s c.begun) s.trail (past (next_op (rest m)) taken) ∙ ap (λ (e : Standing). standing_after e (next_op (rest m))) c.stands
-        ∙ sym (standing_of-made s (next_op (rest m)) taken)
+        standing_along_push (begun_standing s c.begun) s.trail (past (next_op (rest m)) taken) ∙ ap (λ (e : Standing). standing_after e (next_op (rest m))) c.stands
+        ∙ sym (standing_of_made s (next_op (rest m)) taken)
 
     go : (r : Option Answer) → rest_or_answer r m' ≡ after (rest m) taken → (IsSome r ↔ IsIdle m') → IsMachineOf (settled (made s (next_op (rest m)) taken) (after (rest m) taken)) m'
     go None same iff =
         let awake : ¬ IsIdle m' = λ quiet. false≢true (iff.1 quiet) in
-        let on : GoesOn (after (rest m) taken) = subst GoesOn same (GoesOn-machine m' awake) in
+        let on : GoesOn (after (rest m) taken) = subst GoesOn same (GoesOn_machine m' awake) in
         let inside : IsInCall (made s (next_op (rest m)) taken) (Some c.begun) m' =
         (awake, subst (λ (p : Plan). Leads (plan_of (begun_standing s c.begun) c.begun.call) (s.trail ++ past (next_op (rest m)) taken ∷ []) p) (sym same) trail_leads, c.pays, along) in
         let there : IsMachineOf (made s (next_op (rest m)) taken) m' =
         record { standing_is = now; in_call = subst (λ (call : Option Begun). IsInCall (made s (next_op (rest m)) taken) call m') (sym c.is) inside } in
-        subst (λ (x : Side). IsMachineOf x m') (sym (settled-on (made s (next_op (rest m)) taken) (after (rest m) taken) on)) there
+        subst (λ (x : Side). IsMachineOf x m') (sym (settled_on (made s (next_op (rest m)) taken) (after (rest m) taken) on)) there
     go (Some answer) same iff =
         let there : IsMachineOf (answered (made s (next_op (rest m)) taken) answer) m' = record { standing_is = now; in_call = iff.0 refl } in
         subst (λ (p : Plan). IsMachineOf (settled (made s (next_op (rest m)) taken) p) m') same there
@@ -127,7 +127,7 @@ unfolding diff
 moves_on start count value low few is = rw is (grind (arith, nat_tests))
 
 stays : (list : List ℕ) (count : ℕ) → capped (capped (length list) + diff count count) ≡ capped (length list)
-stays list count = ap (λ (d : ℕ). capped (capped (length list) + d)) (diff-same count) ∙ omega arith
+stays list count = ap (λ (d : ℕ). capped (capped (length list) + d)) (diff_same count) ∙ omega arith
 
 grows : (list more : List ℕ) (start value : ℕ) → start < 2 ^ 32 → length more < 2 ^ 32 → value ≡ (start + length more) % 2 ^ 32 →
     capped (capped (length list) + diff (value % 2 ^ 32) start) ≡ capped (length (list ++ more))
@@ -172,7 +172,7 @@ few_moved s m c =
     let e = begun_standing s c.begun in
     let moved = counts_within e c.begun.call s.trail (rest m) c.led in
     let small = most_small e c.begun.call in
-    (omega (arith, moved.0, c.pays, stored_most-payload e c.begun.call), omega (arith, moved.0, small.0), omega (arith, moved.1, small.1))
+    (omega (arith, moved.0, c.pays, stored_most_payload e c.begun.call), omega (arith, moved.0, small.0), omega (arith, moved.1, small.1))
 
 pub side_steps : (orders : Orders) (words source : List ℕ) (s : Side) (m m' : Machine) (result : Option Answer) (words' : List ℕ) (writes reads writes' reads' : Totals) →
     IsMachineOf s m → DoesEvent orders words source m m' result words' writes reads writes' reads' → IsMachineOf (side_by orders words s (rest m)) m'
@@ -216,13 +216,13 @@ sent_step orders words source s m m' result words' writes reads writes' reads' h
     let few = few_moved s m c in
     let same : standing m ≡ standing_of s = h.standing_is in
     let low : s.prod < 2 ^ 32 = subst (λ (e : Standing). e.prod < 2 ^ 32) same d.low.0 in
-    let then_prod : (standing m').prod ≡ prod_after op s.role s.prod = ap (λ (e : Standing). e.prod) d.stands ∙ ap (λ (e : Standing). (standing_after e op).prod) same ∙ prod-after (standing_of s) op in
+    let then_prod : (standing m').prod ≡ prod_after op s.role s.prod = ap (λ (e : Standing). e.prod) d.stands ∙ ap (λ (e : Standing). (standing_after e op).prod) same ∙ prod_after_lem (standing_of s) op in
     ap (λ (w : Totals). w.sent) d.writes_are
     ∙ ap (λ (n : ℕ). capped (n + diff (standing m').prod (standing m).prod)) was
     ∙ ap (λ (n : ℕ). capped (capped (length s.sent) + diff n (standing m).prod)) then_prod
     ∙ ap (λ (e : Standing). capped (capped (length s.sent) + diff (prod_after op s.role s.prod) e.prod)) same
     ∙ sent_of s c.begun op (owed s m c d.busy) low few.0 few.1
-    ∙ ap (λ (xs : List ℕ). capped (length xs)) (sym (settled-sent (made s op (value_taken orders words op)) (after (rest m) (value_taken orders words op))))
+    ∙ ap (λ (xs : List ℕ). capped (length xs)) (sym (settled_sent (made s op (value_taken orders words op)) (after (rest m) (value_taken orders words op))))
 
 pub got_step : (orders : Orders) (words source : List ℕ) (s : Side) (m m' : Machine) (result : Option Answer) (words' : List ℕ) (writes reads writes' reads' : Totals) →
     IsMachineOf s m → DoesEvent orders words source m m' result words' writes reads writes' reads' → reads.got ≡ capped (length s.got) →
@@ -233,19 +233,19 @@ got_step orders words source s m m' result words' writes reads writes' reads' h 
     let few = few_moved s m c in
     let same : standing m ≡ standing_of s = h.standing_is in
     let low : s.cons < 2 ^ 32 = subst (λ (e : Standing). e.cons < 2 ^ 32) same d.low.1 in
-    let then_cons : (standing m').cons ≡ cons_after op s.role s.cons = ap (λ (e : Standing). e.cons) d.stands ∙ ap (λ (e : Standing). (standing_after e op).cons) same ∙ cons-after (standing_of s) op in
+    let then_cons : (standing m').cons ≡ cons_after op s.role s.cons = ap (λ (e : Standing). e.cons) d.stands ∙ ap (λ (e : Standing). (standing_after e op).cons) same ∙ cons_after_lem (standing_of s) op in
     ap (λ (w : Totals). w.got) d.reads_are
     ∙ ap (λ (n : ℕ). capped (n + diff (standing m').cons (standing m).cons)) was
     ∙ ap (λ (n : ℕ). capped (capped (length s.got) + diff n (standing m).cons)) then_cons
     ∙ ap (λ (e : Standing). capped (capped (length s.got) + diff (cons_after op s.role s.cons) e.cons)) same
     ∙ got_of s c.begun op (owed s m c d.busy) low few.2
-    ∙ ap (λ (xs : List ℕ). capped (length xs)) (sym (settled-got (made s op (value_taken orders words op)) (after (rest m) (value_taken orders words op))))
+    ∙ ap (λ (xs : List ℕ). capped (length xs)) (sym (settled_got (made s op (value_taken orders words op)) (after (rest m) (value_taken orders words op))))
 
 -- ---- the page after an event of its server, and of its client
 
-pub event-by : (core : Core) (who : Role) (m : Machine) → InCall (side_of core who) m → event core who ≡ event_by core who (rest m)
+pub event_by_lem : (core : Core) (who : Role) (m : Machine) → InCall (side_of core who) m → event core who ≡ event_by core who (rest m)
 unfolding event
-event-by core who m c = ap (λ (plan : Plan). event_by core who plan) (plan_left-is (side_of core who) m c)
+event_by_lem core who m c = ap (λ (plan : Plan). event_by core who plan) (plan_left_is (side_of core who) m c)
 
 pub stands_server : (core : Core) (page page' : Plain) (source : List ℕ) (result : Option Answer) → StandsFor core page → HasPayload core.server source →
     DoesEvent (orders_of page) (words_of page) source page.server page'.server result (words_of page') page.right page.left page'.right page'.left →
@@ -255,7 +255,7 @@ stands_server core page page' source result h has d orders other server_turned c
     let here : DoesEvent core.orders core.words source page.server page'.server result (words_of page') page.right page.left page'.right page'.left =
     subst (λ (o : Orders). DoesEvent o core.words source page.server page'.server result (words_of page') page.right page.left page'.right page'.left) h.orders
     (subst (λ (w : List ℕ). DoesEvent (orders_of page) w source page.server page'.server result (words_of page') page.right page.left page'.right page'.left) h.words d) in
-    subst (λ (k : Core). StandsFor k page') (sym (event-by core Server page.server (in_call core.server page.server h.server d.busy))) (record {
+    subst (λ (k : Core). StandsFor k page') (sym (event_by_lem core Server page.server (in_call core.server page.server h.server d.busy))) (record {
       orders = orders ∙ h.orders;
       words = words_step core.orders core.words source core.server page.server page'.server result (words_of page') page.right page.left page'.right page'.left h.server has here;
       server = side_steps core.orders core.words source core.server page.server page'.server result (words_of page') page.right page.left page'.right page'.left h.server here;
@@ -268,7 +268,7 @@ stands_server core page page' source result h has d orders other server_turned c
         sent = sent_step core.orders core.words source core.server page.server page'.server result (words_of page') page.right page.left page'.right page'.left h.server here h.right.sent;
         got = ap (λ (w : Totals). w.got) here.writes_are ∙ h.right.got;
       };
-      server_turned = server_turned ∙ h.server_turned ∙ sym (settled-turned (made core.server (next_op (rest page.server)) (value_taken core.orders core.words (next_op (rest page.server)))) (after (rest page.server) (value_taken core.orders core.words (next_op (rest page.server)))));
+      server_turned = server_turned ∙ h.server_turned ∙ sym (settled_turned (made core.server (next_op (rest page.server)) (value_taken core.orders core.words (next_op (rest page.server)))) (after (rest page.server) (value_taken core.orders core.words (next_op (rest page.server)))));
       client_turned = client_turned ∙ h.client_turned;
     })
 
@@ -280,7 +280,7 @@ stands_client core page page' source result h has d orders other server_turned c
     let here : DoesEvent core.orders core.words source page.client page'.client result (words_of page') page.left page.right page'.left page'.right =
     subst (λ (o : Orders). DoesEvent o core.words source page.client page'.client result (words_of page') page.left page.right page'.left page'.right) h.orders
     (subst (λ (w : List ℕ). DoesEvent (orders_of page) w source page.client page'.client result (words_of page') page.left page.right page'.left page'.right) h.words d) in
-    subst (λ (k : Core). StandsFor k page') (sym (event-by core Client page.client (in_call core.client page.client h.client d.busy))) (record {
+    subst (λ (k : Core). StandsFor k page') (sym (event_by_lem core Client page.client (in_call core.client page.client h.client d.busy))) (record {
       orders = orders ∙ h.orders;
       words = words_step core.orders core.words source core.client page.client page'.client result (words_of page') page.left page.right page'.left page'.right h.client has here;
       server = subst (λ (m : Machine). IsMachineOf core.server m) (sym other) h.server;
@@ -294,13 +294,13 @@ stands_client core page page' source result h has d orders other server_turned c
         got = got_step core.orders core.words source core.client page.client page'.client result (words_of page') page.left page.right page'.left page'.right h.client here h.right.got;
       };
       server_turned = server_turned ∙ h.server_turned;
-      client_turned = client_turned ∙ h.client_turned ∙ sym (settled-turned (made core.client (next_op (rest page.client)) (value_taken core.orders core.words (next_op (rest page.client)))) (after (rest page.client) (value_taken core.orders core.words (next_op (rest page.client)))));
+      client_turned = client_turned ∙ h.client_turned ∙ sym (settled_turned (made core.client (next_op (rest page.client)) (value_taken core.orders core.words (next_op (rest page.client)))) (after (rest page.client) (value_taken core.orders core.words (next_op (rest page.client)))));
     })
 
 -- the answer of a step is what is left of the end's call
-pub answer_in-rest : (m' : Machine) (result : Option Answer) → (IsSome result ↔ IsIdle m') → answer_in (rest_or_answer result m') ≡ result
-answer_in-rest m' (Some answer) idle = refl
-answer_in-rest m' None idle = quiet (rest m') (GoesOn-machine m' (λ q. false≢true (idle.1 q)))
+pub answer_in_rest : (m' : Machine) (result : Option Answer) → (IsSome result ↔ IsIdle m') → answer_in (rest_or_answer result m') ≡ result
+answer_in_rest m' (Some answer) idle = refl
+answer_in_rest m' None idle = quiet (rest m') (GoesOn_machine m' (λ q. false≢true (idle.1 q)))
   where
     quiet : (plan : Plan) → GoesOn plan → answer_in plan ≡ None
     quiet (answers answer) more = absurd more
@@ -311,10 +311,8 @@ pub answer_is : (core : Core) (who : Role) (orders : Orders) (words : List ℕ) 
 answer_is core who orders words m m' result h same_orders same_words busy leads idle =
     let there : rest_or_answer result m' ≡ after (rest m) (value_taken core.orders core.words (next_op (rest m))) =
     leads ∙ ap (λ (o : Orders). after (rest m) (value_taken o words (next_op (rest m)))) same_orders ∙ ap (λ (w : List ℕ). after (rest m) (value_taken core.orders w (next_op (rest m)))) same_words in
-    sym (answer_in-rest m' result idle) ∙ ap answer_in there
-    ∙ ap (λ (plan : Plan). answer_in (after plan (value_taken core.orders core.words (next_op plan)))) (sym (plan_left-is (side_of core who) m (in_call (side_of core who) m h busy)))
-
--- ---- the machine of one end, whatever its peer is
+    sym (answer_in_rest m' result idle) ∙ ap answer_in there
+    ∙ ap (λ (plan : Plan). answer_in (after plan (value_taken core.orders core.words (next_op plan)))) (sym (plan_left_is (side_of core who) m (in_call (side_of core who) m h busy)))
 
 -- ---- for the code
 
@@ -322,7 +320,7 @@ answer_is core who orders words m m' result h same_orders same_words busy leads 
 pub counts_on : (result was from x y before then_after : ℕ) → x ≡ then_after → y ≡ before → x < 2 ^ 32 → y < 2 ^ 32 → from ≡ (x + (4294967296 - y)) % 4294967296 → result ≡ min (was + from) 18446744073709551615 →
     result ≡ capped (was + diff then_after before)
 counts_on result was from x y before then_after xs ys low_x low_y from_is is =
-    is ∙ ap (λ (n : ℕ). min (was + n) 18446744073709551615) (from_is ∙ diff-wraps x y low_x low_y ∙ ap (λ (n : ℕ). diff n y) xs ∙ ap (λ (n : ℕ). diff then_after n) ys)
+    is ∙ ap (λ (n : ℕ). min (was + n) 18446744073709551615) (from_is ∙ diff_wraps x y low_x low_y ∙ ap (λ (n : ℕ). diff n y) xs ∙ ap (λ (n : ℕ). diff then_after n) ys)
 
 -- what a machine does at a phase that its page doesn't know of
 pub record DoesAt (orders : Orders) (words source : List ℕ) (m m' : Machine) (phase : Phase) (move : Next) (words' : List ℕ) (writes reads writes' reads' : Totals) : Type 0 where

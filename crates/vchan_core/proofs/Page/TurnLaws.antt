@@ -14,8 +14,8 @@ use Rattle.vchan_core.specs.Page.Counts.{capped}
 use Rattle.vchan_protocol.specs.History.Core.{Core, standing_of}
 use Rattle.vchan_core.specs.Page.StandsFor.{IsMachineOf, StandsFor, machine_of, other_of, turned_of, other_turned_of, words_of, orders_of}
 use Rattle.vchan_protocol.specs.Hostile.Turned.{turns, turned_side, strays, strayed}
-use Rattle.vchan_protocol.proofs.OneEnd.OneEndSteps.{turned_side-sent, turned_side-got}
-use Rattle.vchan_protocol.proofs.Hostile.TurnedSteps.{turned-turned_side}
+use Rattle.vchan_protocol.proofs.OneEnd.OneEndSteps.{turned_side_sent, turned_side_got}
+use Rattle.vchan_protocol.proofs.Hostile.TurnedSteps.{turned_turned_side}
 
 -- what the code of a hostile event does: it turns the end, and then stores to the words
 pub record DoesStray (who : Role) (op : Op) (page given page' : Plain) : Type 0 where
@@ -35,8 +35,8 @@ pub record DoesStray (who : Role) (op : Op) (page given page' : Plain) : Type 0 
   pub server_turned_is : page'.server_turned ≡ given.server_turned
   pub client_turned_is : page'.client_turned ≡ given.client_turned
 
-standing-turned_side : (s : Side) (consumed : ℕ) → standing_of (turned_side s consumed) ≡ standing_of s
-standing-turned_side s consumed = go s.turned
+standing_turned_side : (s : Side) (consumed : ℕ) → standing_of (turned_side s consumed) ≡ standing_of s
+standing_turned_side s consumed = go s.turned
   where
     go : (b : Bool) → standing_of (cond b s (turns s consumed)) ≡ standing_of s
     go true = refl
@@ -44,7 +44,7 @@ standing-turned_side s consumed = go s.turned
 
 strays_machine : (s : Side) (consumed taken : ℕ) (op : Op) (m m' : Machine) → IsMachineOf s m → IsIdle m' → standing m' ≡ standing m → IsMachineOf (strays (turned_side s consumed) op taken) m'
 strays_machine s consumed taken op m m' h idle same = record {
-  standing_is = same ∙ h.standing_is ∙ sym (standing-turned_side s consumed);
+  standing_is = same ∙ h.standing_is ∙ sym (standing_turned_side s consumed);
   in_call = idle;
 }
 
@@ -60,13 +60,13 @@ stands_strayed core Server op page given page' h d = record {
   client = subst (λ (m : Machine). IsMachineOf core.client m) (sym (d.client_is ∙ d.other)) h.client;
   left = record {
     sent = ap (λ (w : Totals). w.sent) (d.left_is ∙ d.left) ∙ h.left.sent;
-    got = ap (λ (w : Totals). w.got) (d.left_is ∙ d.left) ∙ h.left.got ∙ ap (λ (xs : List ℕ). capped (length xs)) (sym (turned_side-got core.server (length core.client.got)));
+    got = ap (λ (w : Totals). w.got) (d.left_is ∙ d.left) ∙ h.left.got ∙ ap (λ (xs : List ℕ). capped (length xs)) (sym (turned_side_got core.server (length core.client.got)));
   };
   right = record {
-    sent = ap (λ (w : Totals). w.sent) (d.right_is ∙ d.right) ∙ h.right.sent ∙ ap (λ (xs : List ℕ). capped (length xs)) (sym (turned_side-sent core.server (length core.client.got)));
+    sent = ap (λ (w : Totals). w.sent) (d.right_is ∙ d.right) ∙ h.right.sent ∙ ap (λ (xs : List ℕ). capped (length xs)) (sym (turned_side_sent core.server (length core.client.got)));
     got = ap (λ (w : Totals). w.got) (d.right_is ∙ d.right) ∙ h.right.got;
   };
-  server_turned = d.server_turned_is ∙ d.turned ∙ sym (turned-turned_side core.server (length core.client.got));
+  server_turned = d.server_turned_is ∙ d.turned ∙ sym (turned_turned_side core.server (length core.client.got));
   client_turned = d.client_turned_is ∙ d.other_turned ∙ h.client_turned;
 }
 stands_strayed core Client op page given page' h d = record {
@@ -75,13 +75,13 @@ stands_strayed core Client op page given page' h d = record {
   server = subst (λ (m : Machine). IsMachineOf core.server m) (sym (d.server_is ∙ d.other)) h.server;
   client = strays_machine core.client (length core.server.got) (value_taken core.orders core.words op) op page.client page'.client h.client (subst IsIdle (sym d.client_is) d.idle) (ap standing d.client_is ∙ d.stands);
   left = record {
-    sent = ap (λ (w : Totals). w.sent) (d.left_is ∙ d.left) ∙ h.left.sent ∙ ap (λ (xs : List ℕ). capped (length xs)) (sym (turned_side-sent core.client (length core.server.got)));
+    sent = ap (λ (w : Totals). w.sent) (d.left_is ∙ d.left) ∙ h.left.sent ∙ ap (λ (xs : List ℕ). capped (length xs)) (sym (turned_side_sent core.client (length core.server.got)));
     got = ap (λ (w : Totals). w.got) (d.left_is ∙ d.left) ∙ h.left.got;
   };
   right = record {
     sent = ap (λ (w : Totals). w.sent) (d.right_is ∙ d.right) ∙ h.right.sent;
-    got = ap (λ (w : Totals). w.got) (d.right_is ∙ d.right) ∙ h.right.got ∙ ap (λ (xs : List ℕ). capped (length xs)) (sym (turned_side-got core.client (length core.server.got)));
+    got = ap (λ (w : Totals). w.got) (d.right_is ∙ d.right) ∙ h.right.got ∙ ap (λ (xs : List ℕ). capped (length xs)) (sym (turned_side_got core.client (length core.server.got)));
   };
   server_turned = d.server_turned_is ∙ d.other_turned ∙ h.server_turned;
-  client_turned = d.client_turned_is ∙ d.turned ∙ sym (turned-turned_side core.client (length core.server.got));
+  client_turned = d.client_turned_is ∙ d.turned ∙ sym (turned_turned_side core.client (length core.server.got));
 }

@@ -24,13 +24,13 @@ use Rattle.vchan_core.specs.WholeCall.EventsMade.{MakesEvents}
 use Rattle.vchan_core.specs.WholeCall.Beside.{IsBeside}
 use Rattle.vchan_core.specs.WholeCall.AtPhase.{page_at}
 use Rattle.vchan_core.specs.WholeCall.Stepped.{Advances, stepped, unless_answered}
-use Rattle.vchan_core.proofs.OneMachine.PhaseLaws.{GoesOn-machine}
-use Rattle.vchan_protocol.proofs.Table.PlanLaws.{Leads-more}
+use Rattle.vchan_core.proofs.OneMachine.PhaseLaws.{GoesOn_machine}
+use Rattle.vchan_protocol.proofs.Table.PlanLaws.{Leads_more}
 use Rattle.vchan_protocol.proofs.Always.InvariantSteps.{invariant_event}
 use Rattle.vchan_core.proofs.Page.StepLaws.{InCall, answer_is}
 use Rattle.vchan_core.proofs.Page.PlainLaws.{goes_on_stands}
 use Rattle.vchan_core.proofs.WholeCall.RunLaws.{IsStep, event_here, event_side, event_payload, event_fills, event_trail, machine_stands}
-use Rattle.vchan_core.proofs.WholeCall.LoopLaws.{IsLow, MovesAt, first_event, is_step, length-buffer_after, step_done, step_to, stands_same}
+use Rattle.vchan_core.proofs.WholeCall.LoopLaws.{IsLow, MovesAt, first_event, is_step, length_buffer_after, step_done, step_to, stands_same}
 
 -- ---- what an event leaves of its end
 
@@ -54,9 +54,9 @@ keeps_both s s' s'' a b = record {
 }
 
 -- an end that is still inside a call is inside the same one
-settled-call : (s : Side) (plan : Plan) (m : Machine) → IsMachineOf (settled s plan) m → ¬ IsIdle m → (settled s plan).call ≡ s.call
-settled-call s (answers answer) m h busy = absurd (busy h.in_call)
-settled-call s (does op next) m h busy = refl
+settled_call : (s : Side) (plan : Plan) (m : Machine) → IsMachineOf (settled s plan) m → ¬ IsIdle m → (settled s plan).call ≡ s.call
+settled_call s (answers answer) m h busy = absurd (busy h.in_call)
+settled_call s (does op next) m h busy = refl
 
 -- if an end has a call that it began, it stood at its begin as this other one did
 begun_as : (s s' : Side) (b : Begun) → Keeps s s' → begun_standing s' b ≡ begun_standing s b
@@ -64,14 +64,14 @@ begun_as s s' b k i = record { role = k.role i; orders = k.orders i; state = b.s
 
 -- ---- how many events are left
 
-stepped-more : (n : ℕ) (core : Core) (who : Role) → 0 < n → stepped n core who ≡ unless_answered (answer_in (plan_next core who)) (event core who) (stepped (n - 1) (event core who) who)
+stepped_more : (n : ℕ) (core : Core) (who : Role) → 0 < n → stepped n core who ≡ unless_answered (answer_in (plan_next core who)) (event core who) (stepped (n - 1) (event core who) who)
 unfolding stepped
-stepped-more zero core who some = absurd (omega arith)
-stepped-more (suc n) core who some = let same : n ≡ suc n - 1 = omega arith in ap (λ (k : ℕ). unless_answered (answer_in (plan_next core who)) (event core who) (stepped k (event core who) who)) same
+stepped_more zero core who some = absurd (omega arith)
+stepped_more (suc n) core who some = let same : n ≡ suc n - 1 = omega arith in ap (λ (k : ℕ). unless_answered (answer_in (plan_next core who)) (event core who) (stepped k (event core who) who)) same
 
-stepped-none : (n : ℕ) (core : Core) (who : Role) → n ≡ 0 → stepped n core who ≡ (core, None)
+stepped_none : (n : ℕ) (core : Core) (who : Role) → n ≡ 0 → stepped n core who ≡ (core, None)
 unfolding stepped
-stepped-none n core who is = ap (λ (k : ℕ). stepped k core who) is
+stepped_none n core who is = ap (λ (k : ℕ). stepped k core who) is
 
 -- the page stands where the events made so far came to; this many of all events are left
 pub record IsAdvancing (core : Core) (who : Role) (all left : ℕ) (page : Plain) (source start buffer : List ℕ) : Type 0 where
@@ -116,7 +116,7 @@ module _ (core : Core) (who : Role) (all left : ℕ) (source start buffer buffer
   is = answer_is a.now who (orders_of page) (words_of page) (machine_of page who) (machine_of page' who) result (machine_stands a.now page who a.stands) a.stands.orders a.stands.words d.busy d.leads d.idle
 
   next : stepped all core who ≡ unless_answered result then (stepped (left - 1) then who)
-  next = sym a.on ∙ stepped-more left a.now who some ∙ ap (λ (r : Option Answer). unless_answered r then (stepped (left - 1) then who)) (sym is)
+  next = sym a.on ∙ stepped_more left a.now who some ∙ ap (λ (r : Option Answer). unless_answered r then (stepped (left - 1) then who)) (sym is)
 
   -- it gave no answer
   pub advance_on : result ≡ None → IsAdvancing core who all (left - 1) page' source start buffer'
@@ -127,7 +127,7 @@ module _ (core : Core) (who : Role) (all left : ℕ) (source start buffer buffer
         stands = stands';
         keeps = keeps';
         call = ap (λ (s : Side). s.call) side'
-            ∙ settled-call _ _ (machine_of page' who) (subst (λ (s : Side). IsMachineOf s (machine_of page' who)) side' (machine_stands then page' who stands')) awake ∙ a.call;
+            ∙ settled_call _ _ (machine_of page' who) (subst (λ (s : Side). IsMachineOf s (machine_of page' who)) side' (machine_stands then page' who stands')) awake ∙ a.call;
         pays = pays';
         buffers = buffers';
         invariant = invariant';
@@ -145,7 +145,7 @@ module _ (core : Core) (who : Role) (all left : ℕ) (source start buffer buffer
       let op = op_of page who in
       let value = value_taken (orders_of page) (words_of page) op in
       let led : Leads (plan_of (begun_standing s b) b.call) (s.trail ++ past op value ∷ []) (after (rest (machine_of page who)) value) =
-      Leads-more (plan_of (begun_standing s b) b.call) s.trail (rest (machine_of page who)) value (GoesOn-machine (machine_of page who) d.busy) here.led in
+      Leads_more (plan_of (begun_standing s b) b.call) s.trail (rest (machine_of page who)) value (GoesOn_machine (machine_of page who) d.busy) here.led in
       let over : after (rest (machine_of page who)) value ≡ answers answer = sym d.leads ∙ ap (λ (r : Option Answer). rest_or_answer r (machine_of page' who)) some' in
       let trail : (side_of then who).trail ≡ s.trail ++ past op value ∷ [] = event_trail a.now who source start buffer buffer' page page' result a.stands long d in (
         b,
@@ -185,7 +185,7 @@ same_page core who all left page page' source start buffer buffer' beside machin
 
 advance_over : (core : Core) (who : Role) (all left : ℕ) (page : Plain) (source start buffer : List ℕ) → left ≡ 0 → IsAdvancing core who all left page source start buffer → Advances core who all page start buffer None
 advance_over core who all left page source start buffer none a =
-    let over : (a.now, None) ≡ stepped all core who = sym (stepped-none left a.now who none) ∙ a.on in
+    let over : (a.now, None) ≡ stepped all core who = sym (stepped_none left a.now who none) ∙ a.on in
     record {
       stands = subst (λ (p : Core × Option Answer). StandsFor p.0 page) over a.stands;
       answer = ap (λ (p : Core × Option Answer). p.1) over;
@@ -206,7 +206,7 @@ advance_along core who all source start zero left page page' buffer buffer' few 
 advance_along core who all source start (suc n) left page page' buffer buffer' few long a low beside d =
     let f = first_event who source n page page' buffer buffer' low beside d in
     let step = is_step who source buffer f.filled page f.mid low f.beside f.one in
-    let long' : length f.filled ≡ length start = ap (λ (l : List ℕ). length l) f.one.buffers ∙ length-buffer_after (orders_of page) (words_of page) buffer (op_of page who) ∙ long in
+    let long' : length f.filled ≡ length start = ap (λ (l : List ℕ). length l) f.one.buffers ∙ length_buffer_after (orders_of page) (words_of page) buffer (op_of page who) ∙ long in
     subst (λ (k : ℕ). IsAdvancing core who all k page' source start buffer') (omega (arith, few))
     (advance_along core who all source start n (left - 1) f.mid page' f.filled buffer' (omega (arith, few)) long'
     (advance_on core who all left source start buffer f.filled page f.mid None (omega (arith, few)) long a step refl) f.low f.then_beside f.more)

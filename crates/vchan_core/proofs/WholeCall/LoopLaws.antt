@@ -29,20 +29,20 @@ use Rattle.vchan_core.specs.Page.StandsFor.{IsMachineOf, HasPayload, StandsFor, 
 use Rattle.vchan_core.specs.WholeCall.EventsMade.{MakesEvent, MakesEvents}
 use Rattle.vchan_core.specs.WholeCall.Beside.{IsBeside}
 use Rattle.vchan_core.specs.WholeCall.AtPhase.{page_at, page_to}
-use Rattle.vchan_core.proofs.OneMachine.PhaseLaws.{GoesOn-machine}
-use Rattle.vchan_protocol.proofs.Table.PlanLaws.{Leads-more}
+use Rattle.vchan_core.proofs.OneMachine.PhaseLaws.{GoesOn_machine}
+use Rattle.vchan_protocol.proofs.Table.PlanLaws.{Leads_more}
 use Rattle.vchan_core.proofs.Page.StepLaws.{DoesEvent, stands_server, stands_client}
 use Rattle.vchan_core.proofs.WholeCall.RunLaws.{IsRunning, IsStep, runs_begun, runs_on, runs_out, then_stands, then_fills, then_trail}
-use Rattle.vchan_protocol.proofs.History.WholeCallLaws.{length-payload}
-use Rattle.vchan_protocol.proofs.History.EventLaws.{diff-same}
-use Rattle.vchan_core.proofs.OneMachine.PhaseLaws.{length-Stands}
+use Rattle.vchan_protocol.proofs.History.WholeCallLaws.{length_payload}
+use Rattle.vchan_protocol.proofs.History.EventLaws.{diff_same}
+use Rattle.vchan_core.proofs.OneMachine.PhaseLaws.{length_Stands}
 
 -- ---- an event on a ring byte as a step
 
 -- a count that an event leaves alone
 unmoved : (moved count now before : ℕ) → moved ≡ capped count → now ≡ before → moved ≡ capped (moved + diff now before)
 unmoved moved count now before is same =
-    let none : diff now before ≡ 0 = ap (λ (n : ℕ). diff n before) same ∙ diff-same before in
+    let none : diff now before ≡ 0 = ap (λ (n : ℕ). diff n before) same ∙ diff_same before in
     omega (arith, none, is)
 
 does_event : (orders : Orders) (source buffer : List ℕ) (m m' : Machine) (list list' buffer' : List ℕ) (writes reads writes' reads' : Totals) (sent got : ℕ) →
@@ -91,15 +91,15 @@ is_step who source buffer buffer' page page' low beside d = record {
 
 -- ---- what the loop keeps
 
-pub length-buffer_after : (orders : Orders) (words buffer : List ℕ) (op : Op) → length (buffer_after orders words buffer op) ≡ length buffer
-length-buffer_after orders words buffer (LoadByte word at) = length-set buffer at _
-length-buffer_after orders words buffer (Load word) = refl
-length-buffer_after orders words buffer (Store word value) = refl
-length-buffer_after orders words buffer (StoreByte word at) = refl
-length-buffer_after orders words buffer (Or word bits) = refl
-length-buffer_after orders words buffer (And word bits) = refl
-length-buffer_after orders words buffer (Swap word value) = refl
-length-buffer_after orders words buffer Nothing = refl
+pub length_buffer_after : (orders : Orders) (words buffer : List ℕ) (op : Op) → length (buffer_after orders words buffer op) ≡ length buffer
+length_buffer_after orders words buffer (LoadByte word at) = length-set buffer at _
+length_buffer_after orders words buffer (Load word) = refl
+length_buffer_after orders words buffer (Store word value) = refl
+length_buffer_after orders words buffer (StoreByte word at) = refl
+length_buffer_after orders words buffer (Or word bits) = refl
+length_buffer_after orders words buffer (And word bits) = refl
+length_buffer_after orders words buffer (Swap word value) = refl
+length_buffer_after orders words buffer Nothing = refl
 
 -- after this many events of a call that began on this page with this buffer
 pub record InLoop (first : Plain) (who : Role) (call : Call) (source start : List ℕ) (page : Plain) (buffer : List ℕ) (count : ℕ) : Type 0 where
@@ -119,9 +119,9 @@ module _ (first : Plain) (who : Role) (call : Call) (source start : List ℕ) (e
   loop_step page page' buffer buffer' count l d out into other =
       let value = value_taken (orders_of page) (words_of page) (op_of page who) in
       let more : PastEvent = past (op_of page who) value in
-      let kept : length buffer' ≡ length buffer = ap length d.buffers ∙ length-buffer_after (orders_of page) (words_of page) buffer (op_of page who) in
+      let kept : length buffer' ≡ length buffer = ap length d.buffers ∙ length_buffer_after (orders_of page) (words_of page) buffer (op_of page who) in
       let plan = plan_of (standing (machine_of first who)) call in
-      let led = Leads-more plan l.trace.0 (rest (machine_of page who)) value (GoesOn-machine (machine_of page who) d.busy) l.trace.1 in
+      let led = Leads_more plan l.trace.0 (rest (machine_of page who)) value (GoesOn_machine (machine_of page who) d.busy) l.trace.1 in
       record {
         busy = λ quiet. false≢true (d.idle.1 quiet);
         payload_left = omega (arith, out, l.payload_left);
@@ -141,7 +141,7 @@ module _ (first : Plain) (who : Role) (call : Call) (source start : List ℕ) (e
   -- a call has made fewer events than it may
   pub loop_short : (page : Plain) (buffer : List ℕ) (count : ℕ) → InLoop first who call source start page buffer count → count < most_events (standing (machine_of first who)) call
   loop_short page buffer count l =
-      omega (arith, l.trace.2, length-Stands (standing (machine_of first who)) call l.trace.0 (machine_of page who) l.trace.1 l.busy)
+      omega (arith, l.trace.2, length_Stands (standing (machine_of first who)) call l.trace.0 (machine_of page who) l.trace.1 l.busy)
 
   -- the last event, with its answer
   module _ (page page' : Plain) (buffer buffer' : List ℕ) (count : ℕ) (answer : Answer) (l : InLoop first who call source start page buffer count) (d : IsStep who source page page' (Some answer) buffer buffer') where
@@ -158,7 +158,7 @@ module _ (first : Plain) (who : Role) (call : Call) (source start : List ℕ) (e
         let value = value_taken (orders_of page) (words_of page) (op_of page who) in
         let more : PastEvent = past (op_of page who) value in
         let plan = plan_of (standing (machine_of first who)) call in
-        let led = Leads-more plan l.trace.0 (rest (machine_of page who)) value (GoesOn-machine (machine_of page who) d.busy) l.trace.1 in
+        let led = Leads_more plan l.trace.0 (rest (machine_of page who)) value (GoesOn_machine (machine_of page who) d.busy) l.trace.1 in
         (l.trace.0 ++ more ∷ [], subst (λ (p : Plan). Leads plan (l.trace.0 ++ more ∷ []) p) (sym d.leads) led, omega (arith, l.trace.2, length_push l.trace.0 more), ends_trail)
 
     pub ends_stands : (core : Core) → StandsFor core first → StandsFor (called core who call (take (payload_of call) source)) page'
@@ -197,14 +197,14 @@ record HasOn (page : Plain) (who : Role) (m : Machine) (list : List ℕ) (page' 
   words : words_of page' ≡ list
   beside : IsBeside who page page'
 
-page_on-has : (page : Plain) (who : Role) (m : Machine) (list : List ℕ) (same : standing m ≡ standing (machine_of page who)) → HasOn page who m list (page_on page who m list same)
+page_on_has : (page : Plain) (who : Role) (m : Machine) (list : List ℕ) (same : standing m ≡ standing (machine_of page who)) → HasOn page who m list (page_on page who m list same)
 unfolding page_on
-page_on-has page Server m list same = record {
+page_on_has page Server m list same = record {
   machine = refl;
   words = refl;
   beside = record { same = same; orders = refl; other = refl; turned = refl; other_turned = refl; left = refl; right = refl };
 }
-page_on-has page Client m list same = record {
+page_on_has page Client m list same = record {
   machine = refl;
   words = refl;
   beside = record { same = same; orders = refl; other = refl; turned = refl; other_turned = refl; left = refl; right = refl };
@@ -283,7 +283,7 @@ first_event who source n page page' buffer buffer' low beside d =
     let one = d.3 in
     let more = d.4 in
     let mid = page_on page who m list one.same in
-    let has = page_on-has page who m list one.same in
+    let has = page_on_has page who m list one.same in
     record {
       mid = mid;
       filled = filled;
@@ -346,7 +346,7 @@ loop_first first Server call source start phase enough room stands plan out into
   long = refl;
   other = refl;
   trace = ([], sym plan, refl);
-  running = λ core h. runs_begun core Server call (take (payload_of call) source) start first (page_at first Server phase) h (stands core (take (payload_of call) source) h (length-payload call source enough)) plan;
+  running = λ core h. runs_begun core Server call (take (payload_of call) source) start first (page_at first Server phase) h (stands core (take (payload_of call) source) h (length_payload call source enough)) plan;
 }
 loop_first first Client call source start phase enough room stands plan out into = record {
   busy = busy_at Client first phase;
@@ -355,7 +355,7 @@ loop_first first Client call source start phase enough room stands plan out into
   long = refl;
   other = refl;
   trace = ([], sym plan, refl);
-  running = λ core h. runs_begun core Client call (take (payload_of call) source) start first (page_at first Client phase) h (stands core (take (payload_of call) source) h (length-payload call source enough)) plan;
+  running = λ core h. runs_begun core Client call (take (payload_of call) source) start first (page_at first Client phase) h (stands core (take (payload_of call) source) h (length_payload call source enough)) plan;
 }
 
 -- this many events at once, from one phase to another

@@ -22,7 +22,7 @@ use Rattle.vchan_protocol.specs.Table.Calls.{put_index, take_index}
 use Rattle.vchan_protocol.specs.Table.Apply.{Fits, words_after, value_taken, buffer_after}
 use Rattle.vchan_core.specs.OneMachine.Phases.{standing, rest, rest_at}
 use Rattle.vchan_core.specs.WholeCall.EventsMade.{MakesEvent, MakesEvents}
-use Rattle.vchan_protocol.proofs.Table.PlanLaws.{put_bytes-more, take_bytes-more}
+use Rattle.vchan_protocol.proofs.Table.PlanLaws.{put_bytes_more, take_bytes_more}
 
 index_on : (orders : Orders) (ring : Ring) (at : ℕ) → index_of orders (RingByte ring (at + 1)) ≡ index_of orders (RingByte ring at) + 1
 index_on orders Left at = omega arith
@@ -51,7 +51,7 @@ put_place m i = place (m.prod + i) (write_order (standing m))
 pub put_plan : (m : Machine) (i k : ℕ) (answer : Answer) → i < k →
     rest (at_put m i k answer) ≡ does (StoreByte (RingByte (written_ring m.role) (put_place m i)) i) (λ _. rest (at_put m (i + 1) k answer))
 unfolding rest_at
-put_plan m i k answer h = put_bytes-more (standing m) i k (put_index (standing m) k (answers answer)) h
+put_plan m i k answer h = put_bytes_more (standing m) i k (put_index (standing m) k (answers answer)) h
 
 put_one : (m : Machine) (list source buffer : List ℕ) (i k : ℕ) (answer : Answer) → i < k → k ≤ length source →
     MakesEvent m.orders source (at_put m i k answer) list buffer (at_put m (i + 1) k answer) (slice_set list (index_of m.orders (RingByte (written_ring m.role) (put_place m i))) (slice_index source i)) buffer
@@ -116,7 +116,7 @@ take_place m i = place (m.cons + i) (read_order (standing m))
 pub take_plan : (m : Machine) (i k : ℕ) (answer : Answer) → i < k →
     rest (at_take m i k answer) ≡ does (LoadByte (RingByte (read_ring m.role) (take_place m i)) i) (λ _. rest (at_take m (i + 1) k answer))
 unfolding rest_at
-take_plan m i k answer h = take_bytes-more (standing m) i k (take_index (standing m) k (answers answer)) h
+take_plan m i k answer h = take_bytes_more (standing m) i k (take_index (standing m) k (answers answer)) h
 
 take_one : (m : Machine) (list source buffer : List ℕ) (i k : ℕ) (answer : Answer) → i < k → k ≤ length buffer →
     MakesEvent m.orders source (at_take m i k answer) list buffer (at_take m (i + 1) k answer) list

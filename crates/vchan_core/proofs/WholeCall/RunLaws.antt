@@ -20,10 +20,10 @@ use Rattle.vchan_core.specs.OneMachine.Phases.{standing, rest, rest_or_answer, I
 use Rattle.vchan_protocol.specs.History.Core.{Core, side_of, with_side, event, begun, made, answered, settled, carried_out, bytes_loaded}
 use Rattle.vchan_protocol.specs.History.WholeCall.{alone, whole_call}
 use Rattle.vchan_core.specs.Page.StandsFor.{IsMachineOf, HasPayload, StandsFor, machine_of, orders_of, words_of, op_of}
-use Rattle.vchan_core.proofs.OneMachine.PhaseLaws.{GoesOn-machine}
-use Rattle.vchan_core.proofs.Page.StepLaws.{InCall, in_call, event-by, owed}
-use Rattle.vchan_protocol.proofs.History.EventLaws.{OwesNext, settled-payload, side_by, event_by-on, event_by-answers, settled-trail, side_of-with_side}
-use Rattle.vchan_protocol.proofs.History.WholeCallLaws.{alone-after, alone-answers, FillsNext, fills_on, length-payload}
+use Rattle.vchan_core.proofs.OneMachine.PhaseLaws.{GoesOn_machine}
+use Rattle.vchan_core.proofs.Page.StepLaws.{InCall, in_call, event_by_lem, owed}
+use Rattle.vchan_protocol.proofs.History.EventLaws.{OwesNext, settled_payload, side_by, event_by_on, event_by_answers, settled_trail, side_of_with_side}
+use Rattle.vchan_protocol.proofs.History.WholeCallLaws.{alone_after, alone_answers, FillsNext, fills_on, length_payload}
 
 -- ---- one end of a core state
 
@@ -44,17 +44,17 @@ pub record IsRunning (core : Core) (who : Role) (call : Call) (payload start : L
 
 has_payload : (s : Side) (call : Call) (source : List ℕ) → payload_of call ≤ length source → s.payload ≡ take (payload_of call) source → HasPayload s source
 has_payload s call source enough pays =
-    ap (λ (xs : List ℕ). take (length xs) source) pays ∙ ap (λ (n : ℕ). take n source) (length-payload call source enough) ∙ sym pays
+    ap (λ (xs : List ℕ). take (length xs) source) pays ∙ ap (λ (n : ℕ). take n source) (length_payload call source enough) ∙ sym pays
 
 pub runs_begun : (core : Core) (who : Role) (call : Call) (payload start : List ℕ) (page page' : Plain) → StandsFor core page → StandsFor (begun core who call payload) page' →
     rest (machine_of page' who) ≡ plan_of (standing (machine_of page who)) call → IsRunning core who call payload start page' start []
 runs_begun core who call payload start page page' h stood plan = record {
   now = begun core who call payload;
   stands = stood;
-  pays = ap (λ (s : Side). s.payload) (side_of-with_side core who _);
+  pays = ap (λ (s : Side). s.payload) (side_of_with_side core who _);
   on = ap (λ (p : Plan). alone (begun core who call payload) who p) (plan ∙ ap (λ (e : Standing). plan_of e call) (machine_stands core page who h).standing_is);
-  fills = sym (ap (λ (s : Side). filled start (bytes_loaded s.trail)) (side_of-with_side core who _));
-  trail = ap (λ (s : Side). s.trail) (side_of-with_side core who _);
+  fills = sym (ap (λ (s : Side). filled start (bytes_loaded s.trail)) (side_of_with_side core who _));
+  trail = ap (λ (s : Side). s.trail) (side_of_with_side core who _);
 }
 
 -- what one step of the loop knows
@@ -81,8 +81,8 @@ fills_next s m c orders out into busy fits = go (next_op (rest m)) (owed s m c b
     go Nothing owes f = tt
 
 -- the end of a core state after its event
-pub side_of-event : (now : Core) (who : Role) (m : Machine) → InCall (side_of now who) m → side_of (event now who) who ≡ side_by now.orders now.words (side_of now who) (rest m)
-side_of-event now who m c = ap (λ (k : Core). side_of k who) (event-by now who m c) ∙ side_of-with_side (record now { words = words_after now.orders now.words (side_of now who).payload (next_op (rest m)) }) who _
+pub side_of_event : (now : Core) (who : Role) (m : Machine) → InCall (side_of now who) m → side_of (event now who) who ≡ side_by now.orders now.words (side_of now who) (rest m)
+side_of_event now who m c = ap (λ (k : Core). side_of k who) (event_by_lem now who m c) ∙ side_of_with_side (record now { words = words_after now.orders now.words (side_of now who).payload (next_op (rest m)) }) who _
 
 -- one event of an end from a core state for which the page stands, whether an answer came or not
 module _ (now : Core) (who : Role) (source start buffer buffer' : List ℕ) (page page' : Plain) (result : Option Answer) (stands : StandsFor now page) (long : length buffer ≡ length start) (d : IsStep who source page page' result buffer buffer') where
@@ -96,10 +96,10 @@ module _ (now : Core) (who : Role) (source start buffer buffer' : List ℕ) (pag
   value = value_taken now.orders now.words next
 
   pub event_side : side_of (event now who) who ≡ settled (made (side_of now who) next value) (after (rest (machine_of page who)) value)
-  event_side = side_of-event now who (machine_of page who) event_here
+  event_side = side_of_event now who (machine_of page who) event_here
 
   pub event_payload : (side_of (event now who) who).payload ≡ (side_of now who).payload
-  event_payload = ap (λ (s : Side). s.payload) event_side ∙ settled-payload (made (side_of now who) _ _) _
+  event_payload = ap (λ (s : Side). s.payload) event_side ∙ settled_payload (made (side_of now who) _ _) _
 
   pub event_leads : rest_or_answer result (machine_of page' who) ≡ after (rest (machine_of page who)) value
   event_leads =
@@ -113,12 +113,12 @@ module _ (now : Core) (who : Role) (source start buffer buffer' : List ℕ) (pag
       d.buffers ∙ ap (λ (o : Orders). buffer_after o (words_of page) buffer next) stands.orders ∙ ap (λ (w : List ℕ). buffer_after now.orders w buffer next) stands.words
       ∙ ap (λ (b : List ℕ). buffer_after now.orders now.words b next) filled_so
       ∙ fills_on now.orders now.words start (side_of now who).trail next fits
-      ∙ sym (ap (λ (s : Side). filled start (bytes_loaded s.trail)) event_side ∙ ap (λ (t : List PastEvent). filled start (bytes_loaded t)) (settled-trail (made (side_of now who) next value) (after (rest (machine_of page who)) value)))
+      ∙ sym (ap (λ (s : Side). filled start (bytes_loaded s.trail)) event_side ∙ ap (λ (t : List PastEvent). filled start (bytes_loaded t)) (settled_trail (made (side_of now who) next value) (after (rest (machine_of page who)) value)))
 
   -- the event of the page, with the value that it took there, comes after the events before
   pub event_trail : (side_of (event now who) who).trail ≡ (side_of now who).trail ++ past next (value_taken (orders_of page) (words_of page) next) ∷ []
   event_trail =
-      ap (λ (s : Side). s.trail) event_side ∙ settled-trail (made (side_of now who) next value) (after (rest (machine_of page who)) value)
+      ap (λ (s : Side). s.trail) event_side ∙ settled_trail (made (side_of now who) next value) (after (rest (machine_of page who)) value)
       ∙ sym (ap (λ (o : Orders). (side_of now who).trail ++ past next (value_taken o (words_of page) next) ∷ []) stands.orders
       ∙ ap (λ (w : List ℕ). (side_of now who).trail ++ past next (value_taken now.orders w next) ∷ []) stands.words)
 
@@ -148,14 +148,14 @@ module _ (core : Core) (who : Role) (call : Call) (source start buffer buffer' :
       let value = value_taken r.now.orders r.now.words next in
       let awake : ¬ IsIdle (machine_of page' who) = λ quiet. false≢true (subst (λ (x : Option Answer). is_some x ≡ true) none (d.idle.1 quiet)) in
       let plan : rest (machine_of page' who) ≡ after (rest (machine_of page who)) value = subst (λ (x : Option Answer). rest_or_answer x (machine_of page' who) ≡ after (rest (machine_of page who)) value) none then_leads in
-      let goes : GoesOn (after (rest (machine_of page who)) value) = subst GoesOn plan (GoesOn-machine (machine_of page' who) awake) in
-      let there : event r.now who ≡ carried_out r.now who next = event-by r.now who (machine_of page who) here ∙ event_by-on r.now who (rest (machine_of page who)) goes in
+      let goes : GoesOn (after (rest (machine_of page who)) value) = subst GoesOn plan (GoesOn_machine (machine_of page' who) awake) in
+      let there : event r.now who ≡ carried_out r.now who next = event_by_lem r.now who (machine_of page who) here ∙ event_by_on r.now who (rest (machine_of page who)) goes in
       record {
         now = event r.now who;
         stands = then_stands;
         pays = event_payload r.now who source start buffer buffer' page page' result r.stands long d ∙ r.pays;
         on = ap (λ (k : Core). alone k who (rest (machine_of page' who))) there ∙ ap (λ (p : Plan). alone (carried_out r.now who next) who p) plan
-            ∙ alone-after r.now who (rest (machine_of page who)) (GoesOn-machine (machine_of page who) d.busy) ∙ r.on;
+            ∙ alone_after r.now who (rest (machine_of page who)) (GoesOn_machine (machine_of page who) d.busy) ∙ r.on;
         fills = then_fills;
         trail = then_trail;
       }
@@ -166,7 +166,7 @@ module _ (core : Core) (who : Role) (call : Call) (source start buffer buffer' :
       let value = value_taken r.now.orders r.now.words next in
       let plan : answers answer ≡ after (rest (machine_of page who)) value = subst (λ (x : Option Answer). rest_or_answer x (machine_of page' who) ≡ after (rest (machine_of page who)) value) some then_leads in
       let there : event r.now who ≡ with_side (carried_out r.now who next) who (answered (side_of (carried_out r.now who next) who) answer) =
-      event-by r.now who (machine_of page who) here ∙ event_by-answers r.now who (rest (machine_of page who)) answer (sym plan) in
+      event_by_lem r.now who (machine_of page who) here ∙ event_by_answers r.now who (rest (machine_of page who)) answer (sym plan) in
       let pair : Core → Core × Answer = λ k. (k, answer) in
-      ap pair there ∙ sym (alone-answers (carried_out r.now who next) who answer) ∙ ap (λ (p : Plan). alone (carried_out r.now who next) who p) plan
-      ∙ alone-after r.now who (rest (machine_of page who)) (GoesOn-machine (machine_of page who) d.busy) ∙ r.on
+      ap pair there ∙ sym (alone_answers (carried_out r.now who next) who answer) ∙ ap (λ (p : Plan). alone (carried_out r.now who next) who p) plan
+      ∙ alone_after r.now who (rest (machine_of page who)) (GoesOn_machine (machine_of page who) d.busy) ∙ r.on

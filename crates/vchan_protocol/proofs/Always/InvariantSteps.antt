@@ -19,7 +19,7 @@ use Rattle.vchan_protocol.specs.Hostile.TurnedLaw.{TurnedLawful, turned_core}
 use Rattle.vchan_protocol.specs.Always.Invariant.{Invariant, RetiredIsSetOnce, MayCome, opens, begins_call, makes_event, is_turned, strays, PageSettled}
 use Rattle.vchan_protocol.proofs.Honest.LawfulSteps.{lawful_opened, lawful_event, lawful_begun}
 use Rattle.vchan_protocol.proofs.Signals.SignalLaws.{event_keeps, begin_keeps, no_signal_lost}
-use Rattle.vchan_protocol.proofs.Hostile.TurnedSteps.{turned_event, turned_begin, first_turn, second_turn, stray, event_grows, turned_core_again, turned-turned_side}
+use Rattle.vchan_protocol.proofs.Hostile.TurnedSteps.{turned_event, turned_begin, first_turn, second_turn, stray, event_grows, turned_core_again, turned_turned_side}
 use Rattle.vchan_protocol.specs.History.Peer.{peer}
 
 -- ---- the opening
@@ -87,8 +87,8 @@ both_honest core Server mine theirs = (mine, theirs)
 both_honest core Client mine theirs = (theirs, mine)
 
 turned_core_given : (core : Core) (who : Role) → (side_of (turned_core core who) who).turned ≡ true
-turned_core_given core Server = turned-turned_side core.server (length core.client.got)
-turned_core_given core Client = turned-turned_side core.client (length core.server.got)
+turned_core_given core Server = turned_turned_side core.server (length core.client.got)
+turned_core_given core Client = turned_turned_side core.client (length core.server.got)
 
 turned_turned_core : (core : Core) (who : Role) → Invariant core → TurnedLawful (turned_core core who)
 turned_turned_core core who h = go (side_of core who).turned (side_of core (peer who)).turned refl refl
@@ -108,8 +108,8 @@ invariant_turned_core core who h = record {
 -- ---- a hostile user's event
 
 strayed_given : (core : Core) (who : Role) (op : Op) → (side_of (strayed core who op) who).turned ≡ true
-strayed_given core Server op = turned-turned_side core.server (length core.client.got)
-strayed_given core Client op = turned-turned_side core.client (length core.server.got)
+strayed_given core Server op = turned_turned_side core.server (length core.client.got)
+strayed_given core Client op = turned_turned_side core.client (length core.server.got)
 
 pub invariant_strayed : (core : Core) (who : Role) (op : Op) → Invariant core → Invariant (strayed core who op)
 invariant_strayed core who op h = record {
@@ -124,8 +124,8 @@ pub retired_settled : (s : Side) (plan : Plan) → (settled s plan).retired ≡ 
 retired_settled s (answers answer) = refl
 retired_settled s (does op next) = refl
 
-retired-turned_side : (s : Side) (consumed : ℕ) → (turned_side s consumed).retired ≡ s.retired
-retired-turned_side s consumed = go s.turned
+retired_turned_side : (s : Side) (consumed : ℕ) → (turned_side s consumed).retired ≡ s.retired
+retired_turned_side s consumed = go s.turned
   where
     go : (b : Bool) → (cond b s (turns s consumed)).retired ≡ s.retired
     go true = refl
@@ -137,14 +137,14 @@ unfolding event
 retires_once core Server = record {
   event = retired_settled (made core.server (op_next core.server) (taken_next core Server)) (plan_next core Server);
   begin = λ call payload. refl;
-  turn = retired-turned_side core.server (length core.client.got);
-  stray = λ op. retired-turned_side core.server (length core.client.got);
+  turn = retired_turned_side core.server (length core.client.got);
+  stray = λ op. retired_turned_side core.server (length core.client.got);
 }
 retires_once core Client = record {
   event = retired_settled (made core.client (op_next core.client) (taken_next core Client)) (plan_next core Client);
   begin = λ call payload. refl;
-  turn = retired-turned_side core.client (length core.server.got);
-  stray = λ op. retired-turned_side core.client (length core.server.got);
+  turn = retired_turned_side core.client (length core.server.got);
+  stray = λ op. retired_turned_side core.client (length core.server.got);
 }
 
 -- ---- all that may happen

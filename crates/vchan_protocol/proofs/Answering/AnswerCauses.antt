@@ -15,7 +15,7 @@ use Rattle.vchan_protocol.specs.History.Core.{is_shut}
 use Rattle.vchan_protocol.specs.Answering.Loads.{Pair, Loads, nothing_loaded, last_pair, looked}
 use Rattle.vchan_protocol.specs.Answering.Causes.{FoundOpen, FoundNone, FoundAllRead, SayOrders, Cause, write_closed, wrote_none, write_full, wrote_some, send_closed, send_no_room, sent_all, read_got, read_closed, read_empty, recv_got, recv_closed, recv_short, drain_got, drain_all_read, drain_not_yet, drain_peer_gone, connect_agrees, connect_refused}
 use Rattle.vchan_protocol.specs.Answering.AnswerLaw.{sends_bytes, transfer_told}
-use Rattle.vchan_protocol.proofs.Answering.AnswerTrails.{Deeds, Comes, comes_answers, comes_if, comes_look_read, comes_look_write, comes_live, comes_gone, comes_gone_told, comes_left_order, comes_right_order, comes_ask, comes_store, comes_signal, comes_swap, comes_put, comes_take, own_live-written, own_gone-written}
+use Rattle.vchan_protocol.proofs.Answering.AnswerTrails.{Deeds, Comes, comes_answers, comes_if, comes_look_read, comes_look_write, comes_live, comes_gone, comes_gone_told, comes_left_order, comes_right_order, comes_ask, comes_store, comes_signal, comes_swap, comes_put, comes_take, own_live_written, own_gone_written}
 
 -- ---- what an answer owes
 
@@ -215,14 +215,14 @@ connect_answers e =
 module _ (e : Standing) (call : Call) (cause : Cause e call nothing_loaded Done) where
   close_answers : (now : Standing) (next : Plan) → ((then_now : Standing) → Comes (Answers e call) then_now nothing_done next) → Comes (Answers e call) now nothing_done (close e next)
   close_answers now next on =
-      comes_store (Answers e call) e now nothing_done _ _ _ (own_live-written e.role _) (λ then_now taken. comes_signal (Answers e call) e then_now nothing_done next on)
+      comes_store (Answers e call) e now nothing_done _ _ _ (own_live_written e.role _) (λ then_now taken. comes_signal (Answers e call) e then_now nothing_done next on)
 
   done_answers : (now : Standing) → Comes (Answers e call) now nothing_done (answers Done)
   done_answers now = comes_answers (Answers e call) e now nothing_done Done (record { cause = cause; transfer = refl; notices = tt })
 
   retire_shut_answers : (now : Standing) → Comes (Answers e call) now nothing_done (retire_shut e)
   retire_shut_answers now =
-      comes_store (Answers e call) e now nothing_done _ _ _ (own_gone-written e.role _) (λ then_now taken. comes_signal (Answers e call) e then_now nothing_done _ done_answers)
+      comes_store (Answers e call) e now nothing_done _ _ _ (own_gone_written e.role _) (λ then_now taken. comes_signal (Answers e call) e then_now nothing_done _ done_answers)
 
   retire_answers : (state : EndState) → Comes (Answers e call) e nothing_done (retire e state)
   retire_answers Fresh = close_answers e _ retire_shut_answers

@@ -18,24 +18,24 @@ use Rattle.vchan_protocol.specs.Answering.Loads.{Pair, Loads, loads_of, last_pai
 use Rattle.vchan_protocol.specs.Answering.Causes.{FoundNone, SayOrders, room_at, waiting_at, TellsWord, Cause, WriteCause, SendCause, ReadCause, RecvCause, DrainCause, ConnectCause, write_closed, wrote_none, write_full, wrote_some, send_closed, send_no_room, sent_all, read_got, read_closed, read_empty, recv_got, recv_closed, recv_short, drain_got, drain_all_read, drain_not_yet, drain_peer_gone, connect_agrees, connect_refused}
 use Rattle.vchan_protocol.specs.Answering.AnswerLaw.{Transfer, transfer_of, transfer_told, ring_writes}
 use Rattle.vchan_protocol.specs.OneEnd.EndingLaw.{has_noticed}
-use Rattle.vchan_protocol.proofs.Table.PlanLaws.{Leads-more}
+use Rattle.vchan_protocol.proofs.Table.PlanLaws.{Leads_more}
 use Rattle.vchan_protocol.proofs.Honest.EndSteps.{InLawful, in_lawful}
-use Rattle.vchan_protocol.proofs.Answering.AnswerTrails.{deeds_along, Comes-Leads, loads-deeds, stored-deeds, loaded-deeds, others-deeds, noticed-deeds}
+use Rattle.vchan_protocol.proofs.Answering.AnswerTrails.{deeds_along, Comes_Leads, loads_deeds, stored_deeds, loaded_deeds, others_deeds, noticed_deeds}
 use Rattle.vchan_protocol.proofs.Answering.AnswerCauses.{Answers, NoticesEnd, nothing_done, call_answers}
 
 -- ---- what a whole call comes to
 
 comes_to : (e : Standing) (call : Call) (events : List PastEvent) (answer : Answer) → Trace e call events answer → Answers e call (deeds_along e nothing_done events) answer
-comes_to e call events answer led = Comes-Leads (Answers e call) e nothing_done (plan_of e call) events answer (call_answers e call) led
+comes_to e call events answer led = Comes_Leads (Answers e call) e nothing_done (plan_of e call) events answer (call_answers e call) led
 
 abbrev transfer : ℕ → ℕ → List Op → Transfer
 transfer stored loaded others = record { stored = stored; loaded = loaded; others = others }
 
 pub tells_transfer : (e : Standing) (call : Call) (events : List PastEvent) (answer : Answer) → Trace e call events answer → transfer_of events ≡ transfer_told e answer
 tells_transfer e call events answer led =
-    let stored : count_stored events ≡ (deeds_along e nothing_done events).stored = sym (stored-deeds e nothing_done events ∙ zero-add (count_stored events)) in
-    let loaded : length (bytes_loaded events) ≡ (deeds_along e nothing_done events).loaded = sym (loaded-deeds e nothing_done events ∙ zero-add (length (bytes_loaded events))) in
-    let others : ring_writes events ≡ (deeds_along e nothing_done events).others = sym (others-deeds e nothing_done events) in
+    let stored : count_stored events ≡ (deeds_along e nothing_done events).stored = sym (stored_deeds e nothing_done events ∙ zero-add (count_stored events)) in
+    let loaded : length (bytes_loaded events) ≡ (deeds_along e nothing_done events).loaded = sym (loaded_deeds e nothing_done events ∙ zero-add (length (bytes_loaded events))) in
+    let others : ring_writes events ≡ (deeds_along e nothing_done events).others = sym (others_deeds e nothing_done events) in
     same (count_stored events) _ (length (bytes_loaded events)) _ (ring_writes events) _ stored loaded others ∙ (comes_to e call events answer led).transfer
   where
     same : (s s' l l' : ℕ) (o o' : List Op) → s ≡ s' → l ≡ l' → o ≡ o' → transfer s l o ≡ transfer s' l' o'
@@ -43,12 +43,12 @@ tells_transfer e call events answer led =
 
 pub has_cause : (e : Standing) (call : Call) (events : List PastEvent) (answer : Answer) → Trace e call events answer → Cause e call (loads_of e events) answer
 has_cause e call events answer led =
-    subst (λ (l : Loads). Cause e call l answer) (loads-deeds e nothing_done events) (comes_to e call events answer led).cause
+    subst (λ (l : Loads). Cause e call l answer) (loads_deeds e nothing_done events) (comes_to e call events answer led).cause
 
 -- an answer that ends a stream comes only if the end has noticed its peer's end
 pub notices_end : (e : Standing) (call : Call) (events : List PastEvent) (answer : Answer) → Trace e call events answer → NoticesEnd e.state (has_noticed e events) answer
 notices_end e call events answer led =
-    subst (λ (b : Bool). NoticesEnd e.state b answer) (noticed-deeds e nothing_done events) (comes_to e call events answer led).notices
+    subst (λ (b : Bool). NoticesEnd e.state b answer) (noticed_deeds e nothing_done events) (comes_to e call events answer led).notices
 
 -- ---- one answer a cause
 
@@ -219,7 +219,7 @@ each_trace s b taken answer lawful is more ends =
     let same : i.begun ≡ b = one_begun s.call i.begun b i.is is in
     subst (λ (c : Begun). Trace (begun_standing s c) c.call (made s (op_next s) taken).trail answer) same
     (subst (λ (p : Plan). Leads (plan_of (begun_standing s i.begun) i.begun.call) (made s (op_next s) taken).trail p) ends
-    (Leads-more (plan_of (begun_standing s i.begun) i.begun.call) s.trail (plan_left s) taken more i.led))
+    (Leads_more (plan_of (begun_standing s i.begun) i.begun.call) s.trail (plan_left s) taken more i.led))
   where
     one_begun : (call : Option Begun) (one two : Begun) → call ≡ Some one → call ≡ Some two → one ≡ two
     one_begun call one two p q = cc

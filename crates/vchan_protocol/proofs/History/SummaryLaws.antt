@@ -14,90 +14,90 @@ use Rattle.vchan_protocol.specs.Table.Plan.{Plan, does, answers, past, Leads, Go
 use Rattle.vchan_protocol.specs.Table.Ends.{Standing, standing_after, low32, state_after, prod_after, cons_after, live_stored, prod_stored, cons_stored}
 use Rattle.vchan_protocol.specs.History.Core.{standing_along, stored_by, loaded_by, count_stored, bytes_loaded}
 use Rattle.vchan_protocol.specs.History.TrailSummary.{TrailSummary, summary, summary_after, summary_along, summary_loaded, summary_stored, empty_summary}
-use Rattle.vchan_protocol.proofs.Table.Sound.{Sound, OwesSound, OwesStored, StaysAs, StaysStored, goes_on-Leads}
+use Rattle.vchan_protocol.proofs.Table.Sound.{Sound, OwesSound, OwesStored, StaysAs, StaysStored, goes_on_Leads}
 
 -- ---- one event more
 
-pub summary-push : (role : Role) (n : TrailSummary) (events : List PastEvent) (op : Op) (taken : ℕ) →
+pub summary_push : (role : Role) (n : TrailSummary) (events : List PastEvent) (op : Op) (taken : ℕ) →
     summary_along role n (events ++ past op taken ∷ []) ≡ summary_after role (summary_along role n events) op taken
-summary-push role n [] op taken = refl
-summary-push role n (event ∷ events) op taken = summary-push role (summary_after role n event.op event.taken) events op taken
+summary_push role n [] op taken = refl
+summary_push role n (event ∷ events) op taken = summary_push role (summary_after role n event.op event.taken) events op taken
 
 -- ---- how many bytes, and which
 
-stored-loaded_word : (word : WordName) (role : Role) (n : TrailSummary) (index : ℕ) → (summary_loaded word role index n).stored ≡ n.stored
-stored-loaded_word LeftCons Client n index = refl
-stored-loaded_word RightCons Server n index = refl
-stored-loaded_word LeftProd Server n index = refl
-stored-loaded_word RightProd Client n index = refl
-stored-loaded_word _ _ n index = refl
+stored_loaded_word : (word : WordName) (role : Role) (n : TrailSummary) (index : ℕ) → (summary_loaded word role index n).stored ≡ n.stored
+stored_loaded_word LeftCons Client n index = refl
+stored_loaded_word RightCons Server n index = refl
+stored_loaded_word LeftProd Server n index = refl
+stored_loaded_word RightProd Client n index = refl
+stored_loaded_word _ _ n index = refl
 
-stored-stored_word : (word : WordName) (role : Role) (n : TrailSummary) (value : ℕ) → (summary_stored word role value n).stored ≡ n.stored
-stored-stored_word LeftProd Client n value = refl
-stored-stored_word RightProd Server n value = refl
-stored-stored_word LeftCons Server n value = refl
-stored-stored_word RightCons Client n value = refl
-stored-stored_word CliLive Client n zero = refl
-stored-stored_word SrvLive Server n zero = refl
-stored-stored_word CliLive Client n (suc value) = refl
-stored-stored_word SrvLive Server n (suc value) = refl
-stored-stored_word _ _ n value = refl
+stored_stored_word : (word : WordName) (role : Role) (n : TrailSummary) (value : ℕ) → (summary_stored word role value n).stored ≡ n.stored
+stored_stored_word LeftProd Client n value = refl
+stored_stored_word RightProd Server n value = refl
+stored_stored_word LeftCons Server n value = refl
+stored_stored_word RightCons Client n value = refl
+stored_stored_word CliLive Client n zero = refl
+stored_stored_word SrvLive Server n zero = refl
+stored_stored_word CliLive Client n (suc value) = refl
+stored_stored_word SrvLive Server n (suc value) = refl
+stored_stored_word _ _ n value = refl
 
-loaded-loaded_word : (word : WordName) (role : Role) (n : TrailSummary) (index : ℕ) → (summary_loaded word role index n).loaded ≡ n.loaded
-loaded-loaded_word LeftCons Client n index = refl
-loaded-loaded_word RightCons Server n index = refl
-loaded-loaded_word LeftProd Server n index = refl
-loaded-loaded_word RightProd Client n index = refl
-loaded-loaded_word _ _ n index = refl
+loaded_loaded_word : (word : WordName) (role : Role) (n : TrailSummary) (index : ℕ) → (summary_loaded word role index n).loaded ≡ n.loaded
+loaded_loaded_word LeftCons Client n index = refl
+loaded_loaded_word RightCons Server n index = refl
+loaded_loaded_word LeftProd Server n index = refl
+loaded_loaded_word RightProd Client n index = refl
+loaded_loaded_word _ _ n index = refl
 
-loaded-stored_word : (word : WordName) (role : Role) (n : TrailSummary) (value : ℕ) → (summary_stored word role value n).loaded ≡ n.loaded
-loaded-stored_word LeftProd Client n value = refl
-loaded-stored_word RightProd Server n value = refl
-loaded-stored_word LeftCons Server n value = refl
-loaded-stored_word RightCons Client n value = refl
-loaded-stored_word CliLive Client n zero = refl
-loaded-stored_word SrvLive Server n zero = refl
-loaded-stored_word CliLive Client n (suc value) = refl
-loaded-stored_word SrvLive Server n (suc value) = refl
-loaded-stored_word _ _ n value = refl
+loaded_stored_word : (word : WordName) (role : Role) (n : TrailSummary) (value : ℕ) → (summary_stored word role value n).loaded ≡ n.loaded
+loaded_stored_word LeftProd Client n value = refl
+loaded_stored_word RightProd Server n value = refl
+loaded_stored_word LeftCons Server n value = refl
+loaded_stored_word RightCons Client n value = refl
+loaded_stored_word CliLive Client n zero = refl
+loaded_stored_word SrvLive Server n zero = refl
+loaded_stored_word CliLive Client n (suc value) = refl
+loaded_stored_word SrvLive Server n (suc value) = refl
+loaded_stored_word _ _ n value = refl
 
-stored-after : (role : Role) (n : TrailSummary) (op : Op) (taken : ℕ) → (summary_after role n op taken).stored ≡ n.stored + stored_by op
-stored-after role n (Load word) taken = stored-loaded_word word role n (low32 taken) ∙ omega arith
-stored-after role n (Store word value) taken = stored-stored_word word role n value ∙ omega arith
-stored-after role n (LoadByte word at) taken = omega arith
-stored-after role n (StoreByte word at) taken = refl
-stored-after role n (Or word bits) taken = omega arith
-stored-after role n (And word bits) taken = omega arith
-stored-after role n (Swap word value) taken = omega arith
-stored-after role n Nothing taken = omega arith
+stored_after : (role : Role) (n : TrailSummary) (op : Op) (taken : ℕ) → (summary_after role n op taken).stored ≡ n.stored + stored_by op
+stored_after role n (Load word) taken = stored_loaded_word word role n (low32 taken) ∙ omega arith
+stored_after role n (Store word value) taken = stored_stored_word word role n value ∙ omega arith
+stored_after role n (LoadByte word at) taken = omega arith
+stored_after role n (StoreByte word at) taken = refl
+stored_after role n (Or word bits) taken = omega arith
+stored_after role n (And word bits) taken = omega arith
+stored_after role n (Swap word value) taken = omega arith
+stored_after role n Nothing taken = omega arith
 
-loaded-after : (role : Role) (n : TrailSummary) (op : Op) (taken : ℕ) → (summary_after role n op taken).loaded ≡ n.loaded ++ loaded_by op taken
-loaded-after role n (Load word) taken = loaded-loaded_word word role n (low32 taken) ∙ sym (append-nil n.loaded)
-loaded-after role n (Store word value) taken = loaded-stored_word word role n value ∙ sym (append-nil n.loaded)
-loaded-after role n (LoadByte word at) taken = refl
-loaded-after role n (StoreByte word at) taken = sym (append-nil n.loaded)
-loaded-after role n (Or word bits) taken = sym (append-nil n.loaded)
-loaded-after role n (And word bits) taken = sym (append-nil n.loaded)
-loaded-after role n (Swap word value) taken = sym (append-nil n.loaded)
-loaded-after role n Nothing taken = sym (append-nil n.loaded)
+loaded_after : (role : Role) (n : TrailSummary) (op : Op) (taken : ℕ) → (summary_after role n op taken).loaded ≡ n.loaded ++ loaded_by op taken
+loaded_after role n (Load word) taken = loaded_loaded_word word role n (low32 taken) ∙ sym (append-nil n.loaded)
+loaded_after role n (Store word value) taken = loaded_stored_word word role n value ∙ sym (append-nil n.loaded)
+loaded_after role n (LoadByte word at) taken = refl
+loaded_after role n (StoreByte word at) taken = sym (append-nil n.loaded)
+loaded_after role n (Or word bits) taken = sym (append-nil n.loaded)
+loaded_after role n (And word bits) taken = sym (append-nil n.loaded)
+loaded_after role n (Swap word value) taken = sym (append-nil n.loaded)
+loaded_after role n Nothing taken = sym (append-nil n.loaded)
 
-stored-along : (role : Role) (n : TrailSummary) (events : List PastEvent) → (summary_along role n events).stored ≡ n.stored + count_stored events
-stored-along role n [] = omega arith
-stored-along role n (event ∷ events) =
-    stored-along role (summary_after role n event.op event.taken) events ∙ ap (λ (k : ℕ). k + count_stored events) (stored-after role n event.op event.taken) ∙ omega arith
+stored_along : (role : Role) (n : TrailSummary) (events : List PastEvent) → (summary_along role n events).stored ≡ n.stored + count_stored events
+stored_along role n [] = omega arith
+stored_along role n (event ∷ events) =
+    stored_along role (summary_after role n event.op event.taken) events ∙ ap (λ (k : ℕ). k + count_stored events) (stored_after role n event.op event.taken) ∙ omega arith
 
-loaded-along : (role : Role) (n : TrailSummary) (events : List PastEvent) → (summary_along role n events).loaded ≡ n.loaded ++ bytes_loaded events
-loaded-along role n [] = sym (append-nil n.loaded)
-loaded-along role n (event ∷ events) =
-    loaded-along role (summary_after role n event.op event.taken) events ∙ ap (λ (xs : List ℕ). xs ++ bytes_loaded events) (loaded-after role n event.op event.taken)
+loaded_along : (role : Role) (n : TrailSummary) (events : List PastEvent) → (summary_along role n events).loaded ≡ n.loaded ++ bytes_loaded events
+loaded_along role n [] = sym (append-nil n.loaded)
+loaded_along role n (event ∷ events) =
+    loaded_along role (summary_after role n event.op event.taken) events ∙ ap (λ (xs : List ℕ). xs ++ bytes_loaded events) (loaded_after role n event.op event.taken)
     ∙ append_assoc n.loaded (loaded_by event.op event.taken) (bytes_loaded events)
 
 -- the two folds count alike
-pub stored-is : (role : Role) (trail : List PastEvent) → (summary role trail).stored ≡ count_stored trail
-stored-is role trail = stored-along role empty_summary trail ∙ omega arith
+pub stored_is : (role : Role) (trail : List PastEvent) → (summary role trail).stored ≡ count_stored trail
+stored_is role trail = stored_along role empty_summary trail ∙ omega arith
 
-pub loaded-is : (role : Role) (trail : List PastEvent) → (summary role trail).loaded ≡ bytes_loaded trail
-loaded-is role trail = loaded-along role empty_summary trail
+pub loaded_is : (role : Role) (trail : List PastEvent) → (summary role trail).loaded ≡ bytes_loaded trail
+loaded_is role trail = loaded_along role empty_summary trail
 
 -- ---- how the end stands
 
@@ -151,7 +151,7 @@ unfolding Sound standing_after
 stands_along e n state prod cons plan [] rest s led more h = h
 stands_along e n state prod cons (answers answer) (event ∷ events) rest s led more h = absurd led
 stands_along e n state prod cons (does op next) (event ∷ events) rest s led more h =
-    let on = s.1 event.taken (goes_on-Leads (next event.taken) events rest led.1 more) in
+    let on = s.1 event.taken (goes_on_Leads (next event.taken) events rest led.1 more) in
     stands_along e (summary_after e.role n event.op event.taken) (state_after event.op e.role state) (prod_after event.op e.role prod) (cons_after event.op e.role cons) (next event.taken) events rest
     (subst (λ (o : Op). Sound e (summary_after e.role n o event.taken) (next event.taken)) (sym led.0) on.1) led.1 more
     (stands_after event.op event.taken e n state prod cons (subst (λ (o : Op). OwesSound e n o) (sym led.0) s.0) (subst (λ (o : Op). StaysAs e.role o) (sym led.0) on.0) h)

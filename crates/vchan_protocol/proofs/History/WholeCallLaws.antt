@@ -18,15 +18,15 @@ use Rattle.vchan_protocol.specs.History.WholeCall.{alone}
 
 -- ---- the plan, one event at a time
 
-pub alone-after : (core : Core) (who : Role) (plan : Plan) → GoesOn plan →
+pub alone_after : (core : Core) (who : Role) (plan : Plan) → GoesOn plan →
     alone (carried_out core who (next_op plan)) who (after plan (value_taken core.orders core.words (next_op plan))) ≡ alone core who plan
 unfolding alone
-alone-after core who (answers answer) more = absurd more
-alone-after core who (does op next) more = refl
+alone_after core who (answers answer) more = absurd more
+alone_after core who (does op next) more = refl
 
-pub alone-answers : (core : Core) (who : Role) (answer : Answer) → alone core who (answers answer) ≡ (with_side core who (answered (side_of core who) answer), answer)
+pub alone_answers : (core : Core) (who : Role) (answer : Answer) → alone core who (answers answer) ≡ (with_side core who (answered (side_of core who) answer), answer)
 unfolding alone
-alone-answers core who answer = refl
+alone_answers core who answer = refl
 
 -- ---- the bytes that are loaded
 
@@ -35,10 +35,10 @@ abbrev pub FillsNext : List PastEvent → ℕ → Op → Type 0
 FillsNext events most (LoadByte word at) = (at ≡ length (bytes_loaded events)) × (at < most)
 FillsNext events most _ = Unit {0}
 
-pub bytes_loaded-push : (events : List PastEvent) (op : Op) (taken : ℕ) → bytes_loaded (events ++ past op taken ∷ []) ≡ bytes_loaded events ++ loaded_by op taken
-bytes_loaded-push [] op taken = append-nil (loaded_by op taken)
-bytes_loaded-push (event ∷ events) op taken =
-    ap (λ (xs : List ℕ). loaded_by event.op event.taken ++ xs) (bytes_loaded-push events op taken) ∙ sym (append_assoc (loaded_by event.op event.taken) (bytes_loaded events) (loaded_by op taken))
+pub bytes_loaded_push : (events : List PastEvent) (op : Op) (taken : ℕ) → bytes_loaded (events ++ past op taken ∷ []) ≡ bytes_loaded events ++ loaded_by op taken
+bytes_loaded_push [] op taken = append-nil (loaded_by op taken)
+bytes_loaded_push (event ∷ events) op taken =
+    ap (λ (xs : List ℕ). loaded_by event.op event.taken ++ xs) (bytes_loaded_push events op taken) ∙ sym (append_assoc (loaded_by event.op event.taken) (bytes_loaded events) (loaded_by op taken))
 
 pub set_next : (bytes buffer : List ℕ) (value : ℕ) → length bytes < length buffer → slice_set (bytes ++ drop (length bytes) buffer) (length bytes) value ≡ filled buffer (bytes ++ value ∷ [])
 set_next bytes buffer value within =
@@ -50,7 +50,7 @@ set_next bytes buffer value within =
 -- the buffer goes on being filled
 pub fills_on : (orders : Orders) (words start : List ℕ) (events : List PastEvent) (op : Op) → FillsNext events (length start) op →
     buffer_after orders words (filled start (bytes_loaded events)) op ≡ filled start (bytes_loaded (events ++ past op (value_taken orders words op) ∷ []))
-fills_on orders words start events op fills = go op fills ∙ ap (λ (xs : List ℕ). filled start xs) (sym (bytes_loaded-push events op (value_taken orders words op)))
+fills_on orders words start events op fills = go op fills ∙ ap (λ (xs : List ℕ). filled start xs) (sym (bytes_loaded_push events op (value_taken orders words op)))
   where
     bytes : List ℕ
     bytes = bytes_loaded events
@@ -70,5 +70,5 @@ fills_on orders words start events op fills = go op fills ∙ ap (λ (xs : List 
     go (Swap word value) f = ap (λ (xs : List ℕ). filled start xs) same
     go Nothing f = ap (λ (xs : List ℕ). filled start xs) same
 
-pub length-payload : (call : Call) (source : List ℕ) → payload_of call ≤ length source → length (take (payload_of call) source) ≡ payload_of call
-length-payload call source enough = omega (arith, length-take (payload_of call) source)
+pub length_payload : (call : Call) (source : List ℕ) → payload_of call ≤ length source → length (take (payload_of call) source) ≡ payload_of call
+length_payload call source enough = omega (arith, length-take (payload_of call) source)

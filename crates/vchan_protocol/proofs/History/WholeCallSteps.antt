@@ -12,7 +12,7 @@ use Rattle.vchan_protocol.specs.Honest.Lawful.{Lawful}
 use Rattle.vchan_protocol.specs.Always.Invariant.{Invariant}
 use Rattle.vchan_protocol.specs.Honest.Reached.{IsReached, opens, begins_call, makes_event, MayBegin}
 use Rattle.vchan_protocol.proofs.History.EventLaws.{event_by}
-use Rattle.vchan_protocol.proofs.History.EventLaws.{event_by-on, event_by-answers}
+use Rattle.vchan_protocol.proofs.History.EventLaws.{event_by_on, event_by_answers}
 use Rattle.vchan_protocol.proofs.Signals.SignalLaws.{left_then}
 use Rattle.vchan_protocol.proofs.Honest.EndSteps.{goes_on_call}
 use Rattle.vchan_protocol.proofs.Hostile.TurnedSteps.{event_grows}
@@ -32,9 +32,9 @@ left_begun : (core : Core) (who : Role) (call : Call) (payload : List ℕ) → p
 left_begun core Server call payload = refl
 left_begun core Client call payload = refl
 
-event-is : (core : Core) (who : Role) → event core who ≡ event_by core who (plan_left (side_of core who))
+event_is : (core : Core) (who : Role) → event core who ≡ event_by core who (plan_left (side_of core who))
 unfolding event
-event-is core who = refl
+event_is core who = refl
 
 module _ (P : Core → Type 0) (who : Role) (keeps : (core : Core) → P core → GoesOn (plan_left (side_of core who)) → P (event core who)) where
   kept_until : (plan : Plan) (core : Core) → Until P core who plan → P (alone core who plan).0
@@ -43,14 +43,14 @@ module _ (P : Core → Type 0) (who : Role) (keeps : (core : Core) → P core �
   kept_until (does op next) core h = kept_until (next (value_taken core.orders core.words op)) (carried_out core who op) (go (next (value_taken core.orders core.words op)) refl)
     where
       there : event core who ≡ event_by core who (does op next)
-      there = event-is core who ∙ ap (λ (plan : Plan). event_by core who plan) h.1
+      there = event_is core who ∙ ap (λ (plan : Plan). event_by core who plan) h.1
 
       now : P (event core who)
       now = keeps core h.0 (subst GoesOn (sym h.1) tt)
 
       go : (rest : Plan) → next (value_taken core.orders core.words op) ≡ rest → Until P (carried_out core who op) who rest
-      go (answers answer) is = subst P (there ∙ event_by-answers core who (does op next) answer is) now
-      go (does then_does further) is = (subst P (there ∙ event_by-on core who (does op next) (subst GoesOn (sym is) tt)) now, left_then core who op next h.1 ∙ is)
+      go (answers answer) is = subst P (there ∙ event_by_answers core who (does op next) answer is) now
+      go (does then_does further) is = (subst P (there ∙ event_by_on core who (does op next) (subst GoesOn (sym is) tt)) now, left_then core who op next h.1 ∙ is)
 
   -- a whole call keeps it from the begin on
   pub call_keeps_it : (core : Core) (call : Call) (payload : List ℕ) → P (begun core who call payload) → P (called core who call payload)

@@ -6,10 +6,10 @@ use Rattle.std.proofs.lemmas.List.Elements.{All-nil, All-cons, All-head, All-app
 use Rattle.std.proofs.lemmas.Bool.{cases_lt}
 use Rattle.std.proofs.lemmas.Bool.Decides.{nat_tests}
 use Rattle.list_laws.specs.Lists.{IsPrefixOf}
-use Rattle.list_laws.proofs.Prefixes.{prefix-length}
+use Rattle.list_laws.proofs.Prefixes.{prefix_length}
 use Rattle.ring_words.specs.declared.order.Order.{Order}
 use Rattle.ring_words.specs.Rings.{size, place, room, ready}
-use Rattle.ring_words.proofs.RingLaws.{place_apart, diff_counts, size-within, place_wraps, place_within}
+use Rattle.ring_words.proofs.RingLaws.{place_apart, diff_counts, size_within, place_wraps, place_within}
 use Rattle.vchan_protocol.specs.Honest.RingLaw.{Channel, IsLawful, LeavesRoom, ShowsBytes, AreBytes, index_at}
 
 -- ---- prefixes
@@ -35,7 +35,7 @@ prefix_more xs ys more h = (h.0 ++ more, sym (append_assoc xs h.0 more) ∙ ap (
 room_total : (start sent count k : ℕ) (order : Order) → sent ≤ count + size order → count ≤ sent → k ≤ room (index_at start sent) (index_at start count) order → sent + k ≤ count + size order
 unfolding room
 room_total start sent count k order fits past h =
-    let s = size-within order in
+    let s = size_within order in
     let d = diff_counts start sent count past (omega (arith, s.0, s.1)) in
     grind (arith, nat_tests)
 
@@ -43,7 +43,7 @@ room_total start sent count k order fits past h =
 ready_total : (start got count k : ℕ) (order : Order) → got ≤ count → count ≤ got + size order → k ≤ ready (index_at start count) (index_at start got) order → got + k ≤ count
 unfolding ready
 ready_total start got count k order past fits h =
-    let s = size-within order in
+    let s = size_within order in
     let d = diff_counts start count got past (omega (arith, s.0, s.1)) in
     grind (arith, nat_tests)
 
@@ -53,7 +53,7 @@ leaves_room r index k w seen h =
     let g : LeavesRoom r.start (size r.order) (length r.sent) (length r.got) 0 index = subst (λ (o : Option ℕ). IfSome o (LeavesRoom r.start (size r.order) (length r.sent) (length r.got) 0)) seen w.writer_looked in
     let here : k ≤ room (index_at r.start (length r.sent)) (index_at r.start g.count) r.order =
     subst (λ (n : ℕ). k ≤ room (index_at r.start (length r.sent)) n r.order) g.is (subst (λ (n : ℕ). k ≤ room n index r.order) w.own_prod h) in
-    record { count = g.count; is = g.is; within = g.within; room = room_total r.start (length r.sent) g.count k r.order (omega (arith, g.room)) (omega (arith, g.within, prefix-length r.got r.sent w.prefix)) here }
+    record { count = g.count; is = g.is; within = g.within; room = room_total r.start (length r.sent) g.count k r.order (omega (arith, g.room)) (omega (arith, g.within, prefix_length r.got r.sent w.prefix)) here }
 
 pub shows_bytes : (r : Channel) (index k : ℕ) (older : List ℕ) → IsLawful r → r.got_before ≡ length r.got → r.prods_seen ≡ index ∷ older → k ≤ ready index r.own_cons r.order → ShowsBytes r.start (length r.sent) (length r.got) k index
 shows_bytes r index k older w before seen h =
@@ -75,8 +75,8 @@ index_more start sent k = omega arith
 -- ---- events on other words
 
 -- the ring's own words are as they were
-pub lawful-same : (r : Channel) (new : ℕ → ℕ) (prod cons : ℕ) → IsLawful r → ((i : ℕ) → i < size r.order → new i ≡ r.bytes i) → prod ≡ r.prod → cons ≡ r.cons → IsLawful (record r { bytes = new; prod = prod; cons = cons })
-lawful-same r new prod cons w same p c = record {
+pub lawful_same : (r : Channel) (new : ℕ → ℕ) (prod cons : ℕ) → IsLawful r → ((i : ℕ) → i < size r.order → new i ≡ r.bytes i) → prod ≡ r.prod → cons ≡ r.cons → IsLawful (record r { bytes = new; prod = prod; cons = cons })
+lawful_same r new prod cons w same p c = record {
   prod = p ∙ w.prod;
   cons = c ∙ w.cons;
   own_prod = w.own_prod;
@@ -94,8 +94,8 @@ lawful-same r new prod cons w same p c = record {
 -- ---- events of the writer
 
 -- it loads the consumer index
-pub lawful-look_write : (r : Channel) → IsLawful r → IsLawful (record r { cons_seen = Some r.cons })
-lawful-look_write r w = record {
+pub lawful_look_write : (r : Channel) → IsLawful r → IsLawful (record r { cons_seen = Some r.cons })
+lawful_look_write r w = record {
   prod = w.prod;
   cons = w.cons;
   own_prod = w.own_prod;
@@ -121,12 +121,12 @@ put_fits r index w seen h =
     omega (arith, g.room, g.within)
 
 -- it stores its next byte
-pub lawful-store_byte : (r : Channel) (index : ℕ) (new : ℕ → ℕ) → IsLawful r → r.cons_seen ≡ Some index → r.stored < room r.own_prod index r.order →
+pub lawful_store_byte : (r : Channel) (index : ℕ) (new : ℕ → ℕ) → IsLawful r → r.cons_seen ≡ Some index → r.stored < room r.own_prod index r.order →
     new (place (r.own_prod + r.stored) r.order) ≡ slice_index r.payload r.stored → ((i : ℕ) → i < size r.order → i ≢ place (r.own_prod + r.stored) r.order → new i ≡ r.bytes i) →
     IsLawful (record r { bytes = new; stored = r.stored + 1 })
-lawful-store_byte r index new w seen h here others =
+lawful_store_byte r index new w seen h here others =
     let fits = put_fits r index w seen h in
-    let small = prefix-length r.got r.sent w.prefix in
+    let small = prefix_length r.got r.sent w.prefix in
     record {
       prod = w.prod;
       cons = w.cons;
@@ -156,9 +156,9 @@ length_sent : (xs ys : List ℕ) (k : ℕ) → k ≤ length ys → length (xs ++
 length_sent xs ys k h = omega (arith, length-append xs (take k ys), length-take k ys)
 
 -- it stores its index: what it stored is sent
-pub lawful-store_prod : (r : Channel) (index : ℕ) → IsLawful r → r.cons_seen ≡ Some index → r.stored ≤ room r.own_prod index r.order → r.stored ≤ length r.payload → AreBytes r.payload →
+pub lawful_store_prod : (r : Channel) (index : ℕ) → IsLawful r → r.cons_seen ≡ Some index → r.stored ≤ room r.own_prod index r.order → r.stored ≤ length r.payload → AreBytes r.payload →
     IsLawful (record r { prod = (r.own_prod + r.stored) % 2 ^ 32; own_prod = (r.own_prod + r.stored) % 2 ^ 32; sent = r.sent ++ take r.stored r.payload; stored = 0 })
-lawful-store_prod r index w seen h has bytes =
+lawful_store_prod r index w seen h has bytes =
     let g = leaves_room r index r.stored w seen h in
     let n = length_sent r.sent r.payload r.stored has in
     let e : (r.own_prod + r.stored) % 2 ^ 32 ≡ index_at r.start (length (r.sent ++ take r.stored r.payload)) =
@@ -186,8 +186,8 @@ lawful-store_prod r index w seen h has bytes =
     }
 
 -- it begins a call, with another payload
-pub lawful-begin_write : (r : Channel) (payload : List ℕ) → IsLawful r → IsLawful (record r { cons_seen = None; payload = payload; stored = 0 })
-lawful-begin_write r payload w = record {
+pub lawful_begin_write : (r : Channel) (payload : List ℕ) → IsLawful r → IsLawful (record r { cons_seen = None; payload = payload; stored = 0 })
+lawful_begin_write r payload w = record {
   prod = w.prod;
   cons = w.cons;
   own_prod = w.own_prod;
@@ -205,8 +205,8 @@ lawful-begin_write r payload w = record {
 -- ---- events of the reader
 
 -- it loads the producer index
-pub lawful-look_read : (r : Channel) → r.got_before ≤ length r.got → IsLawful r → IsLawful (record r { prods_seen = r.prod ∷ r.prods_seen })
-lawful-look_read r before w = record {
+pub lawful_look_read : (r : Channel) → r.got_before ≤ length r.got → IsLawful r → IsLawful (record r { prods_seen = r.prod ∷ r.prods_seen })
+lawful_look_read r before w = record {
   prod = w.prod;
   cons = w.cons;
   own_prod = w.own_prod;
@@ -218,14 +218,14 @@ lawful-look_read r before w = record {
   writer_looked = w.writer_looked;
   writer_stored = w.writer_stored;
   reader_looked = All-cons (ShowsBytes r.start (length r.sent) r.got_before 0) r.prod r.prods_seen
-      (record { count = length r.sent; is = w.prod; unread = omega (arith, before, prefix-length r.got r.sent w.prefix); within = omega arith }) w.reader_looked;
+      (record { count = length r.sent; is = w.prod; unread = omega (arith, before, prefix_length r.got r.sent w.prefix); within = omega arith }) w.reader_looked;
   reader_loaded = w.reader_loaded;
 }
 
 -- it loads its next byte
-pub lawful-load_byte : (r : Channel) (index byte : ℕ) (older : List ℕ) → IsLawful r → r.got_before ≡ length r.got → r.prods_seen ≡ index ∷ older → length r.loaded < ready index r.own_cons r.order →
+pub lawful_load_byte : (r : Channel) (index byte : ℕ) (older : List ℕ) → IsLawful r → r.got_before ≡ length r.got → r.prods_seen ≡ index ∷ older → length r.loaded < ready index r.own_cons r.order →
     byte ≡ r.bytes (place (r.own_cons + length r.loaded) r.order) % 2 ^ 8 → IsLawful (record r { loaded = r.loaded ++ byte ∷ [] })
-lawful-load_byte r index byte older w before seen h is =
+lawful_load_byte r index byte older w before seen h is =
     let s = shows_bytes r index (length r.loaded + 1) older w before seen (omega (arith, h)) in
     let k = length r.got + length r.loaded in
     let long : length (r.got ++ r.loaded) ≡ length r.got + length r.loaded = length-append r.got r.loaded in
@@ -256,9 +256,9 @@ leaves_more None start size sent got more h w = tt
 leaves_more (Some index) start size sent got more h w = record { count = w.count; is = w.is; within = omega (arith, h, w.within); room = w.room }
 
 -- it stores its index: what it loaded is got
-pub lawful-store_cons : (r : Channel) → IsLawful r →
+pub lawful_store_cons : (r : Channel) → IsLawful r →
     IsLawful (record r { cons = (r.own_cons + length r.loaded) % 2 ^ 32; own_cons = (r.own_cons + length r.loaded) % 2 ^ 32; got = r.got ++ r.loaded; loaded = [] })
-lawful-store_cons r w =
+lawful_store_cons r w =
     let n = length-append r.got r.loaded in
     let e : (r.own_cons + length r.loaded) % 2 ^ 32 ≡ index_at r.start (length (r.got ++ r.loaded)) =
     ap (λ (m : ℕ). (m + length r.loaded) % 2 ^ 32) w.own_cons ∙ index_more r.start (length r.got) (length r.loaded) ∙ ap (λ (m : ℕ). index_at r.start m) (sym n) in
@@ -278,8 +278,8 @@ lawful-store_cons r w =
     }
 
 -- it begins a call
-pub lawful-begin_read : (r : Channel) (before : ℕ) → IsLawful r → IsLawful (record r { prods_seen = []; loaded = []; got_before = before })
-lawful-begin_read r before w = record {
+pub lawful_begin_read : (r : Channel) (before : ℕ) → IsLawful r → IsLawful (record r { prods_seen = []; loaded = []; got_before = before })
+lawful_begin_read r before w = record {
   prod = w.prod;
   cons = w.cons;
   own_prod = w.own_prod;

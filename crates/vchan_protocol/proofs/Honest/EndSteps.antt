@@ -19,10 +19,10 @@ use Rattle.vchan_protocol.specs.Table.Calls.{plan_of, payload_of, put_bytes, put
 use Rattle.vchan_protocol.specs.History.Core.{begun_standing, standing_of, standing_along, plan_left, made, settled, begins, count_stored, bytes_loaded}
 use Rattle.vchan_protocol.specs.History.TrailSummary.{TrailSummary, summary, empty_summary}
 use Rattle.vchan_protocol.specs.Honest.RingLaw.{Channel, IsLawful, IsLawfulCall, IsLawfulIn, CallLawful, IsPutting, IsTaking, HasRoom, HasBytes, AreBytes, got_before}
-use Rattle.vchan_protocol.proofs.Table.PlanLaws.{Leads-more, rest_after-Leads, GoesOn-put_bytes, GoesOn-take_bytes}
-use Rattle.vchan_protocol.proofs.Table.Counted.{Counted, counted_call, Counted-Leads}
-use Rattle.vchan_protocol.proofs.History.EventLaws.{OwesNext, owes_next, standing_of-made, standing_along-push}
-use Rattle.vchan_protocol.proofs.Table.Sound.{Sound, OwesSound, OwesStored, StoresProd, StoresCons, sound_call, Sound-Leads, owes_sound}
+use Rattle.vchan_protocol.proofs.Table.PlanLaws.{Leads_more, rest_after_Leads, GoesOn_put_bytes, GoesOn_take_bytes}
+use Rattle.vchan_protocol.proofs.Table.Counted.{Counted, counted_call, Counted_Leads}
+use Rattle.vchan_protocol.proofs.History.EventLaws.{OwesNext, owes_next, standing_of_made, standing_along_push}
+use Rattle.vchan_protocol.proofs.Table.Sound.{Sound, OwesSound, OwesStored, StoresProd, StoresCons, sound_call, Sound_Leads, owes_sound}
 use Rattle.vchan_protocol.proofs.History.SummaryLaws.{stands_by_summary}
 use Rattle.vchan_protocol.proofs.Honest.ChannelLaws.{leaves_room, shows_bytes}
 
@@ -38,15 +38,15 @@ pub record InLawful (s : Side) : Type 0 where
   pub lawful : IsLawfulCall s begun
   pub led : Leads (plan_of (begun_standing s begun) begun.call) s.trail (plan_left s)
 
-plan_left-by : (s : Side) (b : Begun) → s.call ≡ Some b → plan_left s ≡ rest_after (plan_of (begun_standing s b) b.call) s.trail
-plan_left-by s b is = subst (λ (call : Option Begun). left_by s call ≡ rest_after (plan_of (begun_standing s b) b.call) s.trail) (sym is) refl
+plan_left_by : (s : Side) (b : Begun) → s.call ≡ Some b → plan_left s ≡ rest_after (plan_of (begun_standing s b) b.call) s.trail
+plan_left_by s b is = subst (λ (call : Option Begun). left_by s call ≡ rest_after (plan_of (begun_standing s b) b.call) s.trail) (sym is) refl
 
 abbrev in_call : (s : Side) (b : Begun) → s.call ≡ Some b → IsLawfulCall s b → InLawful s
 in_call s b is c = record {
   begun = b;
   is = is;
   lawful = c;
-  led = subst (λ (p : Plan). Leads (plan_of (begun_standing s b) b.call) s.trail p) (sym (plan_left-by s b is)) c.led;
+  led = subst (λ (p : Plan). Leads (plan_of (begun_standing s b) b.call) s.trail p) (sym (plan_left_by s b is)) c.led;
 }
 
 pub in_lawful : (s : Side) → CallLawful s → GoesOn (plan_left s) → InLawful s
@@ -59,7 +59,7 @@ in_lawful s c more = go s.call refl c more
 -- its next event owes what a sound call owes
 pub sound_now : (s : Side) (i : InLawful s) → GoesOn (plan_left s) → Sound (begun_standing s i.begun) (summary s.role s.trail) (plan_left s)
 sound_now s i more =
-    Sound-Leads (begun_standing s i.begun) empty_summary (plan_of (begun_standing s i.begun) i.begun.call) s.trail (plan_left s) (sound_call (begun_standing s i.begun) i.begun.call) i.led more
+    Sound_Leads (begun_standing s i.begun) empty_summary (plan_of (begun_standing s i.begun) i.begun.call) s.trail (plan_left s) (sound_call (begun_standing s i.begun) i.begun.call) i.led more
 
 pub owes_now : (s : Side) (i : InLawful s) → GoesOn (plan_left s) → OwesSound (begun_standing s i.begun) (summary s.role s.trail) (next_op (plan_left s))
 owes_now s i more = owes_sound (begun_standing s i.begun) (summary s.role s.trail) (plan_left s) (sound_now s i more) more
@@ -72,7 +72,7 @@ counts_now s i more =
     let into = loaded_most e i.begun.call in
     let stored : 0 + count_stored s.trail ≡ count_stored s.trail = omega arith in
     let loaded : 0 + length (bytes_loaded s.trail) ≡ length (bytes_loaded s.trail) = omega arith in
-    let there = Counted-Leads e out into e 0 0 (plan_of e i.begun.call) s.trail (plan_left s) (counted_call e i.begun.call) i.led in
+    let there = Counted_Leads e out into e 0 0 (plan_of e i.begun.call) s.trail (plan_left s) (counted_call e i.begun.call) i.led in
     let one = subst (λ (x : ℕ). Counted e out into (standing_along e s.trail) x (0 + length (bytes_loaded s.trail)) (plan_left s)) stored there in
     let two = subst (λ (x : ℕ). Counted e out into (standing_along e s.trail) (count_stored s.trail) x (plan_left s)) loaded one in
     let here = subst (λ (x : Standing). Counted e out into x (count_stored s.trail) (length (bytes_loaded s.trail)) (plan_left s)) i.lawful.stands two in
@@ -105,20 +105,20 @@ call_begins s call payload allowed pays bytes = record {
 
 -- after its event an end is between two calls, or in a lawful one
 pub call_goes_on : (s : Side) (taken : ℕ) → CallLawful s → GoesOn (plan_left s) → CallLawful (settled (made s (next_op (plan_left s)) taken) (after (plan_left s) taken))
-call_goes_on s taken c more = go (after (plan_left s) taken) (Leads-more (plan_of (begun_standing s i.begun) i.begun.call) s.trail (plan_left s) taken more i.led)
+call_goes_on s taken c more = go (after (plan_left s) taken) (Leads_more (plan_of (begun_standing s i.begun) i.begun.call) s.trail (plan_left s) taken more i.led)
   where
     i : InLawful s
     i = in_lawful s c more
 
     stands : standing_along (begun_standing s i.begun) (s.trail ++ past (next_op (plan_left s)) taken ∷ []) ≡ standing_of (made s (next_op (plan_left s)) taken)
     stands =
-        standing_along-push (begun_standing s i.begun) s.trail (past (next_op (plan_left s)) taken) ∙ ap (λ (n : Standing). standing_after n (next_op (plan_left s))) i.lawful.stands
-        ∙ sym (standing_of-made s (next_op (plan_left s)) taken)
+        standing_along_push (begun_standing s i.begun) s.trail (past (next_op (plan_left s)) taken) ∙ ap (λ (n : Standing). standing_after n (next_op (plan_left s))) i.lawful.stands
+        ∙ sym (standing_of_made s (next_op (plan_left s)) taken)
 
     on : (rest : Plan) → Leads (plan_of (begun_standing s i.begun) i.begun.call) (s.trail ++ past (next_op (plan_left s)) taken ∷ []) rest → GoesOn rest → IsLawfulCall (made s (next_op (plan_left s)) taken) i.begun
     on rest led goes =
         let trail = s.trail ++ past (next_op (plan_left s)) taken ∷ [] in
-        let is : rest_after (plan_of (begun_standing s i.begun) i.begun.call) trail ≡ rest = rest_after-Leads (plan_of (begun_standing s i.begun) i.begun.call) trail rest led in
+        let is : rest_after (plan_of (begun_standing s i.begun) i.begun.call) trail ≡ rest = rest_after_Leads (plan_of (begun_standing s i.begun) i.begun.call) trail rest led in
         let now = stands_by_summary (begun_standing s i.begun) (plan_of (begun_standing s i.begun) i.begun.call) trail rest (sound_call (begun_standing s i.begun) i.begun.call) led goes in
         record {
           allowed = i.lawful.allowed;
@@ -167,7 +167,7 @@ inside_put zero e n i k next s =
     let owes = prod_owed e.role e n _ s.0 in
     record { index = owes.index; seen = owes.seen; fits = omega (arith, owes.had_room); not_shown = owes.not_shown }
 inside_put (suc j) e n i k next s =
-    let on = inside_put j e (record n { stored = n.stored + 1 }) (i + 1) k next (s.1 0 (GoesOn-put_bytes e (i + 1) j _ _)).1 in
+    let on = inside_put j e (record n { stored = n.stored + 1 }) (i + 1) k next (s.1 0 (GoesOn_put_bytes e (i + 1) j _ _)).1 in
     record { index = on.index; seen = on.seen; fits = omega (arith, on.fits); not_shown = on.not_shown }
 
 inside_take : (j : ℕ) (e : Standing) (n : TrailSummary) (i k : ℕ) (next : Plan) → Sound e n (take_bytes e i j (take_index e k next)) → TakesWithin e n (length n.loaded + j)
@@ -176,7 +176,7 @@ inside_take zero e n i k next s =
     let owes = cons_owed e.role e n _ s.0 in
     record { index = owes.index; older = owes.older; seen = owes.seen; fits = omega (arith, owes.waited); not_released = owes.not_released }
 inside_take (suc j) e n i k next s =
-    let on = inside_take j e (record n { loaded = n.loaded ++ 0 ∷ [] }) (i + 1) k next (s.1 0 (GoesOn-take_bytes e (i + 1) j _ _)).1 in
+    let on = inside_take j e (record n { loaded = n.loaded ++ 0 ∷ [] }) (i + 1) k next (s.1 0 (GoesOn_take_bytes e (i + 1) j _ _)).1 in
     record { index = on.index; older = on.older; seen = on.seen; fits = omega (arith, on.fits, length-append n.loaded (0 ∷ [])); not_released = on.not_released }
 
 -- what it was before it was shown
@@ -190,7 +190,7 @@ puts_within s r c w seen own order k p =
     let n = summary s.role s.trail in
     let e = begun_standing s p.begun in
     let call : IsLawfulCall s p.begun = subst (λ (call : Option Begun). IsLawfulIn s call) p.is c in
-    let more : GoesOn (plan_left s) = subst GoesOn (sym p.rest_is) (GoesOn-put_bytes e n.stored (k - n.stored) _ _) in
+    let more : GoesOn (plan_left s) = subst GoesOn (sym p.rest_is) (GoesOn_put_bytes e n.stored (k - n.stored) _ _) in
     let inside : PutsWithin e n (n.stored + (k - n.stored)) = inside_put (k - n.stored) e n n.stored k p.then_does (subst (λ (q : Plan). Sound e n q) p.rest_is (sound_now s (in_call s p.begun p.is call) more)) in
     let same : s.prod ≡ p.begun.prod = not_yet n.shown _ p.begun.prod s.prod inside.not_shown call.prod in
     let fits : k ≤ room p.begun.prod inside.index (order_of s.orders (written_ring s.role)) = omega (arith, inside.fits) in
@@ -204,7 +204,7 @@ takes_within s r c w seen own order got before k p =
     let n = summary s.role s.trail in
     let e = begun_standing s p.begun in
     let call : IsLawfulCall s p.begun = subst (λ (call : Option Begun). IsLawfulIn s call) p.is c in
-    let more : GoesOn (plan_left s) = subst GoesOn (sym p.rest_is) (GoesOn-take_bytes e (length n.loaded) (k - length n.loaded) _ _) in
+    let more : GoesOn (plan_left s) = subst GoesOn (sym p.rest_is) (GoesOn_take_bytes e (length n.loaded) (k - length n.loaded) _ _) in
     let inside : TakesWithin e n (length n.loaded + (k - length n.loaded)) = inside_take (k - length n.loaded) e n (length n.loaded) k p.then_does (subst (λ (q : Plan). Sound e n q) p.rest_is (sound_now s (in_call s p.begun p.is call) more)) in
     let same : s.cons ≡ p.begun.cons = not_yet n.released _ p.begun.cons s.cons inside.not_released call.cons in
     let fits : k ≤ ready inside.index p.begun.cons (order_of s.orders (read_ring s.role)) = omega (arith, inside.fits) in

@@ -21,7 +21,7 @@ use Rattle.vchan_protocol.specs.Honest.RingLaw.{IsLawful, ShowsBytes, RingLawful
 use Rattle.vchan_protocol.specs.Honest.LifeLaw.{LifeLawful}
 use Rattle.vchan_protocol.specs.Honest.Lawful.{Lawful, IsEnd}
 use Rattle.vchan_protocol.specs.Honest.Reached.{MayBegin}
-use Rattle.vchan_protocol.proofs.Honest.ChannelLaws.{lawful-begin_write, lawful-begin_read}
+use Rattle.vchan_protocol.proofs.Honest.ChannelLaws.{lawful_begin_write, lawful_begin_read}
 use Rattle.vchan_protocol.proofs.Honest.EndSteps.{in_lawful, owes_now, counts_now, call_begins, call_goes_on, puts_within, takes_within}
 use Rattle.vchan_protocol.proofs.Honest.RingSteps.{wrote_made, read_made}
 use Rattle.vchan_protocol.proofs.Honest.LifeSteps.{life_opened, life_begun, life_event}
@@ -143,11 +143,11 @@ lawful_event core who h more =
 
 begins_writer : (start : ℕ) (orders : Orders) (words : List ℕ) (ring : Ring) (s other : Side) (call : Call) (payload : List ℕ) →
     IsLawful (channel_between start orders words ring s other) → IsLawful (channel_between start orders words ring (begins s call payload) other)
-begins_writer start orders words ring s other call payload w = lawful-begin_write (channel_between start orders words ring s other) payload w
+begins_writer start orders words ring s other call payload w = lawful_begin_write (channel_between start orders words ring s other) payload w
 
 begins_reader : (start : ℕ) (orders : Orders) (words : List ℕ) (ring : Ring) (s other : Side) (call : Call) (payload : List ℕ) →
     IsLawful (channel_between start orders words ring other s) → IsLawful (channel_between start orders words ring other (begins s call payload))
-begins_reader start orders words ring s other call payload w = lawful-begin_read (channel_between start orders words ring other s) _ w
+begins_reader start orders words ring s other call payload w = lawful_begin_read (channel_between start orders words ring other s) _ w
 
 begins_call : (role : Role) (orders : Orders) (s : Side) (call : Call) (payload : List ℕ) → IsEnd role orders s → IsAllowed role s.state call → length payload ≡ payload_of call → AreBytes payload →
     CallLawful (begins s call payload)

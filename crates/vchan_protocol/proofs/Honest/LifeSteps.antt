@@ -4,7 +4,7 @@ use Rattle.std.proofs.lemmas.Bool.{false≢true, eq-eqb, eqb-true, or_parts, or_
 use Rattle.std.proofs.lemmas.Bool.Decides.{nat_tests}
 use Rattle.std.proofs.Math.Bool.{or-false}
 use Rattle.list_laws.specs.Lists.{IsPrefixOf}
-use Rattle.list_laws.proofs.Prefixes.{prefix-all, prefix-length}
+use Rattle.list_laws.proofs.Prefixes.{prefix_all, prefix_length}
 use Rattle.ring_words.specs.Rings.{size, diff, ready}
 use Rattle.ring_words.specs.Page.{order_of}
 use Rattle.ring_words.specs.declared.order.Order.{Order}
@@ -14,7 +14,7 @@ use Rattle.ring_words.specs.declared.page.Role.TheVariants.{Server, Client}
 use Rattle.ring_words.specs.declared.page.Ring.TheVariants.{Left, Right}
 use Rattle.ring_words.specs.declared.page.WordName.{WordName}
 use Rattle.ring_words.specs.declared.page.WordName.TheVariants.{LeftCons, LeftProd, RightCons, RightProd, LeftOrder, RightOrder}
-use Rattle.ring_words.proofs.RingLaws.{diff_counts, size-within}
+use Rattle.ring_words.proofs.RingLaws.{diff_counts, size_within}
 use Rattle.vchan_protocol.specs.declared.op.Op.{Op}
 use Rattle.vchan_protocol.specs.declared.op.Op.TheVariants.{Load, Store}
 use Rattle.vchan_protocol.specs.declared.op.PastEvent.{PastEvent}
@@ -36,9 +36,9 @@ use Rattle.vchan_protocol.specs.Honest.RingLaw.{index_at, word_at, RingLawful, C
 use Rattle.vchan_protocol.specs.Honest.LifeLaw.{LifeLawful, SightLawful, StreamLawful, TellsGone, SaysOrders, OrdersGive, OrderGives, LooksGive, LookGives, LoadGives, shows_end, has_seen}
 use Rattle.vchan_protocol.specs.History.Peer.{held, peer}
 use Rattle.vchan_protocol.specs.Honest.Lawful.{Lawful}
-use Rattle.vchan_protocol.proofs.Honest.LifeTrails.{Lives, OwesLife, OwesStore, OwesAnswer, or_assoc, lives_call, Lives-Leads}
+use Rattle.vchan_protocol.proofs.Honest.LifeTrails.{Lives, OwesLife, OwesStore, OwesAnswer, or_assoc, lives_call, Lives_Leads}
 use Rattle.vchan_protocol.proofs.Honest.LifeWords.{spared_stays, left_order_spared, right_order_spared, peer_live_spared, peer_gone_spared, shut_stays, fresh_before, live_tells, gone_tells, shown_shut, order_given, gone_is, peer_unset}
-use Rattle.vchan_protocol.proofs.History.EventLaws.{diff-same}
+use Rattle.vchan_protocol.proofs.History.EventLaws.{diff_same}
 
 -- ---- the opening
 
@@ -204,7 +204,7 @@ in_lawful_call s lawful more = go s.call refl lawful more
 lives_now : (said : ℕ × ℕ) (final : ℕ) (s : Side) → InLawfulCall s → LooksGive final s.role false s.trail → OrdersGive said s.trail → Lives said final s.role s.orders s.state s.cons (has_seen s.role s.trail) (plan_left s)
 lives_now said final s c looks says =
     subst (λ (x : Standing). Lives said final s.role s.orders x.state x.cons (has_seen s.role s.trail) (plan_left s)) c.lawful.stands
-    (Lives-Leads said final (begun_standing s c.begun) false (plan_of (begun_standing s c.begun) c.begun.call) s.trail (plan_left s)
+    (Lives_Leads said final (begun_standing s c.begun) false (plan_of (begun_standing s c.begun) c.begun.call) s.trail (plan_left s)
     (lives_call said final (begun_standing s c.begun) c.begun.call c.lawful.allowed) c.led looks says)
 
 owes_now : (said : ℕ × ℕ) (final : ℕ) (role : Role) (orders : Orders) (state : EndState) (cons : ℕ) (seen : Bool) (plan : Plan) → Lives said final role orders state cons seen plan → GoesOn plan → OwesLife (next_op plan) role state
@@ -225,18 +225,18 @@ owes_answer said final role orders state cons seen answer w = w
 
 -- ---- a trail that grows
 
-has_seen-push : (role : Role) (events : List PastEvent) (event : PastEvent) → has_seen role (events ++ event ∷ []) ≡ (has_seen role events || shows_end event.op role event.taken)
-has_seen-push role [] event = or-false (shows_end event.op role event.taken)
-has_seen-push role (first ∷ events) event = ap (λ (b : Bool). shows_end first.op role first.taken || b) (has_seen-push role events event) ∙ sym (or_assoc (shows_end first.op role first.taken) (has_seen role events) (shows_end event.op role event.taken))
+has_seen_push : (role : Role) (events : List PastEvent) (event : PastEvent) → has_seen role (events ++ event ∷ []) ≡ (has_seen role events || shows_end event.op role event.taken)
+has_seen_push role [] event = or-false (shows_end event.op role event.taken)
+has_seen_push role (first ∷ events) event = ap (λ (b : Bool). shows_end first.op role first.taken || b) (has_seen_push role events event) ∙ sym (or_assoc (shows_end first.op role first.taken) (has_seen role events) (shows_end event.op role event.taken))
 
-LooksGive-push : (index : ℕ) (role : Role) (seen : Bool) (events : List PastEvent) (event : PastEvent) → LooksGive index role seen events → ((seen || has_seen role events) ≡ true → LookGives index event.op role event.taken) → LooksGive index role seen (events ++ event ∷ [])
-LooksGive-push index role seen [] event looks last = (λ was. last (or-false seen ∙ was), tt)
-LooksGive-push index role seen (first ∷ events) event looks last =
-    (looks.0, LooksGive-push index role (seen || shows_end first.op role first.taken) events event looks.1 (λ was. last (sym (or_assoc seen (shows_end first.op role first.taken) (has_seen role events)) ∙ was)))
+LooksGive_push : (index : ℕ) (role : Role) (seen : Bool) (events : List PastEvent) (event : PastEvent) → LooksGive index role seen events → ((seen || has_seen role events) ≡ true → LookGives index event.op role event.taken) → LooksGive index role seen (events ++ event ∷ [])
+LooksGive_push index role seen [] event looks last = (λ was. last (or-false seen ∙ was), tt)
+LooksGive_push index role seen (first ∷ events) event looks last =
+    (looks.0, LooksGive_push index role (seen || shows_end first.op role first.taken) events event looks.1 (λ was. last (sym (or_assoc seen (shows_end first.op role first.taken) (has_seen role events)) ∙ was)))
 
-OrdersGive-push : (said : ℕ × ℕ) (events : List PastEvent) (event : PastEvent) → OrdersGive said events → OrderGives said event.op event.taken → OrdersGive said (events ++ event ∷ [])
-OrdersGive-push said [] event looks last = (last, tt)
-OrdersGive-push said (first ∷ events) event looks last = (looks.0, OrdersGive-push said events event looks.1 last)
+OrdersGive_push : (said : ℕ × ℕ) (events : List PastEvent) (event : PastEvent) → OrdersGive said events → OrderGives said event.op event.taken → OrdersGive said (events ++ event ∷ [])
+OrdersGive_push said [] event looks last = (last, tt)
+OrdersGive_push said (first ∷ events) event looks last = (looks.0, OrdersGive_push said events event looks.1 last)
 
 unseen_looks : (index : ℕ) (role : Role) (events : List PastEvent) → has_seen role events ≡ false → LooksGive index role false events
 unseen_looks index role [] none = tt
@@ -269,7 +269,7 @@ got_grows _ s = ([], append-nil s.got)
 -- a reader that got all that was sent gets no more
 all_stays : (got then_got sent : List ℕ) → IsPrefixOf got then_got → IsPrefixOf then_got sent → got ≡ sent → then_got ≡ sent
 all_stays got then_got sent grown begins all =
-    prefix-all then_got sent begins (omega (arith, prefix-length got then_got grown, ap (λ (xs : List ℕ). length xs) all))
+    prefix_all then_got sent begins (omega (arith, prefix_length got then_got grown, ap (λ (xs : List ℕ). length xs) all))
 
 ready_is : (prod cons : ℕ) (order : Order) → diff prod cons ≤ size order → ready prod cons order ≡ diff prod cons
 unfolding ready
@@ -277,20 +277,20 @@ ready_is prod cons order fits = grind (arith, nat_tests)
 
 module _ (start : ℕ) (order : Order) (got sent : List ℕ) (begins : IsPrefixOf got sent) (fits : length sent ≤ length got + size order) where
   ahead : diff (index_at start (length sent)) (index_at start (length got)) ≡ length sent - length got
-  ahead = diff_counts start (length sent) (length got) (prefix-length got sent begins) (omega (arith, fits, (size-within order).1))
+  ahead = diff_counts start (length sent) (length got) (prefix_length got sent begins) (omega (arith, fits, (size_within order).1))
 
   -- if the two indices are equal, all that was sent is got
   caught_up : index_at start (length sent) ≡ index_at start (length got) → got ≡ sent
   caught_up same =
-      let apart : length sent - length got ≡ 0 = sym ahead ∙ ap (λ (n : ℕ). diff n (index_at start (length got))) same ∙ diff-same (index_at start (length got)) in
-      prefix-all got sent begins (omega (arith, apart))
+      let apart : length sent - length got ≡ 0 = sym ahead ∙ ap (λ (n : ℕ). diff n (index_at start (length got))) same ∙ diff_same (index_at start (length got)) in
+      prefix_all got sent begins (omega (arith, apart))
 
   -- if nothing is ready, the two indices are equal
   none_ready : ready (index_at start (length sent)) (index_at start (length got)) order ≡ 0 → index_at start (length sent) ≡ index_at start (length got)
   none_ready none =
       let small : diff (index_at start (length sent)) (index_at start (length got)) ≤ size order = omega (arith, ahead, fits) in
       let apart : length sent - length got ≡ 0 = sym ahead ∙ sym (ready_is _ _ order small) ∙ none in
-      ap (λ (n : ℕ). index_at start n) (omega (arith, apart, prefix-length got sent begins))
+      ap (λ (n : ℕ). index_at start n) (omega (arith, apart, prefix_length got sent begins))
 
 -- ---- an event
 
@@ -335,7 +335,7 @@ module _ (start : ℕ) (said : ℕ × ℕ) (orders : Orders) (words : List ℕ) 
   shows = shown_shut orders words (op_next mine) mine.role theirs.retired theirs.state b.their_live b.their_gone
 
   seen_after : has_seen mine.role (mine.trail ++ past (op_next mine) (value_taken orders words (op_next mine)) ∷ []) ≡ (has_seen mine.role mine.trail || shows_end (op_next mine) mine.role (value_taken orders words (op_next mine)))
-  seen_after = has_seen-push mine.role mine.trail (past (op_next mine) (value_taken orders words (op_next mine)))
+  seen_after = has_seen_push mine.role mine.trail (past (op_next mine) (value_taken orders words (op_next mine)))
 
   lives_after : Lives said (index_at start (length theirs.sent)) mine.role mine.orders (state_after (op_next mine) mine.role mine.state) (cons_after (op_next mine) mine.role mine.cons)
       (has_seen mine.role (mine.trail ++ past (op_next mine) (value_taken orders words (op_next mine)) ∷ [])) (after (plan_left mine) (value_taken orders words (op_next mine)))
@@ -357,7 +357,7 @@ module _ (start : ℕ) (said : ℕ × ℕ) (orders : Orders) (words : List ℕ) 
     my_sight = record {
       saw = saw_shut (op_next mine) (value_taken orders words (op_next mine)) mine (theirs.state ≡ Shut) b.my_sight.saw shows;
       seen = λ is. seen_shut (or_cases (has_seen mine.role mine.trail) (shows_end (op_next mine) mine.role (value_taken orders words (op_next mine))) (sym seen_after ∙ is));
-      later = LooksGive-push (index_at start (length theirs.sent)) mine.role false mine.trail _ b.my_sight.later
+      later = LooksGive_push (index_at start (length theirs.sent)) mine.role false mine.trail _ b.my_sight.later
           (λ was. look_given orders words (index_at start (length theirs.sent)) (op_next mine) mine.role look (omega arith));
     };
     their_sight = record {
@@ -376,7 +376,7 @@ module _ (start : ℕ) (said : ℕ × ℕ) (orders : Orders) (words : List ℕ) 
       all = λ drained. b.writes.all drained ∙ sym (sent_stays (op_next mine) mine owes_next (b.writes.shut drained));
       ended = b.writes.ended;
     };
-    my_orders = OrdersGive-push said mine.trail _ b.my_orders (order_given orders words said (op_next mine) b.left_order b.right_order);
+    my_orders = OrdersGive_push said mine.trail _ b.my_orders (order_given orders words said (op_next mine) b.left_order b.right_order);
     their_orders = b.their_orders;
     my_misled = b.my_misled;
     their_misled = b.their_misled;

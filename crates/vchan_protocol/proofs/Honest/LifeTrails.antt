@@ -410,17 +410,17 @@ lives_call said final e Retire allowed = lives_retire said final e e.state
 -- ---- along a trail
 
 -- what an end lives by stays so along events that fit
-pub Lives-Leads : (said : ℕ × ℕ) (final : ℕ) (e : Standing) (seen : Bool) (plan : Plan) (events : List PastEvent) (rest : Plan) → Lives said final e.role e.orders e.state e.cons seen plan → Leads plan events rest →
+pub Lives_Leads : (said : ℕ × ℕ) (final : ℕ) (e : Standing) (seen : Bool) (plan : Plan) (events : List PastEvent) (rest : Plan) → Lives said final e.role e.orders e.state e.cons seen plan → Leads plan events rest →
     LooksGive final e.role seen events → OrdersGive said events →
     Lives said final e.role e.orders (standing_along e events).state (standing_along e events).cons (seen || has_seen e.role events) rest
 unfolding Lives standing_after
-Lives-Leads said final e seen plan [] rest w led looks says =
+Lives_Leads said final e seen plan [] rest w led looks says =
     subst (λ (b : Bool). Lives said final e.role e.orders e.state e.cons b rest) (sym (or-false seen)) (subst (λ (p : Plan). Lives said final e.role e.orders e.state e.cons seen p) led w)
-Lives-Leads said final e seen (answers answer) (event ∷ events) rest w led looks says = absurd led
-Lives-Leads said final e seen (does op next) (event ∷ events) rest w led looks says =
+Lives_Leads said final e seen (answers answer) (event ∷ events) rest w led looks says = absurd led
+Lives_Leads said final e seen (does op next) (event ∷ events) rest w led looks says =
     let first : Lives said final e.role e.orders (state_after event.op e.role e.state) (cons_after event.op e.role e.cons) (seen || shows_end event.op e.role event.taken) (next event.taken) =
     subst (λ (o : Op). (seen ≡ true → LookGives final o e.role event.taken) → OrderGives said o event.taken → Lives said final e.role e.orders (state_after o e.role e.state) (cons_after o e.role e.cons) (seen || shows_end o e.role event.taken) (next event.taken))
     (sym led.0) (w.1 event.taken) looks.0 says.0 in
     subst (λ (b : Bool). Lives said final e.role e.orders (standing_along (standing_after e event.op) events).state (standing_along (standing_after e event.op) events).cons b rest)
     (or_assoc seen (shows_end event.op e.role event.taken) (has_seen e.role events))
-    (Lives-Leads said final (standing_after e event.op) (seen || shows_end event.op e.role event.taken) (next event.taken) events rest first led.1 looks.1 says.1)
+    (Lives_Leads said final (standing_after e event.op) (seen || shows_end event.op e.role event.taken) (next event.taken) events rest first led.1 looks.1 says.1)

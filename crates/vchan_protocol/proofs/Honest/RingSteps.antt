@@ -26,10 +26,10 @@ use Rattle.vchan_protocol.specs.History.Core.{begun_standing, made, count_stored
 use Rattle.vchan_protocol.specs.History.TrailSummary.{TrailSummary, summary, summary_after, summary_loaded, summary_stored, empty_summary, unshown, unreleased}
 use Rattle.vchan_protocol.specs.Honest.RingLaw.{Channel, IsLawful, IsLawfulCall, AreBytes, word_at, channel_between, index_at}
 use Rattle.vchan_protocol.proofs.Table.Sound.{OwesSound, OwesStored, IsFlag, StoresProd, StoresCons}
-use Rattle.vchan_protocol.proofs.History.SummaryLaws.{summary-push, stored-is, loaded-is}
-use Rattle.vchan_protocol.proofs.Honest.ChannelLaws.{lawful-same, lawful-look_write, lawful-store_byte, lawful-store_prod, lawful-look_read, lawful-load_byte, lawful-store_cons}
+use Rattle.vchan_protocol.proofs.History.SummaryLaws.{summary_push, stored_is, loaded_is}
+use Rattle.vchan_protocol.proofs.Honest.ChannelLaws.{lawful_same, lawful_look_write, lawful_store_byte, lawful_store_prod, lawful_look_read, lawful_load_byte, lawful_store_cons}
 use Rattle.vchan_protocol.proofs.Table.Counted.{counts_within}
-use Rattle.vchan_protocol.proofs.History.EventLaws.{OwesNext, stored_most-payload}
+use Rattle.vchan_protocol.proofs.History.EventLaws.{OwesNext, stored_most_payload}
 use Rattle.vchan_protocol.proofs.Honest.EndSteps.{not_yet}
 
 -- ---- the words of a ring
@@ -94,10 +94,10 @@ has_cons orders Left = tt
 has_cons orders Right = tt
 
 -- a word that is none of this ring is written: the ring stays lawful
-lawful-elsewhere : (r : Channel) (orders : Orders) (words : List ℕ) (ring : Ring) (written : WordName) (value : ℕ) → r.order ≡ order_of orders ring → Has orders written → Elsewhere ring written →
+lawful_elsewhere : (r : Channel) (orders : Orders) (words : List ℕ) (ring : Ring) (written : WordName) (value : ℕ) → r.order ≡ order_of orders ring → Has orders written → Elsewhere ring written →
     IsLawful (on_words r orders words ring) → IsLawful (on_words r orders (slice_set words (index_of orders written) value) ring)
-lawful-elsewhere r orders words ring written value order has other w =
-    lawful-same (on_words r orders words ring) (λ at. word_at orders (slice_set words (index_of orders written) value) (RingByte ring at)) _ _ w
+lawful_elsewhere r orders words ring written value order has other w =
+    lawful_same (on_words r orders words ring) (λ at. word_at orders (slice_set words (index_of orders written) value) (RingByte ring at)) _ _ w
     (λ i below. kept orders words written (RingByte ring i) value has (subst (λ (o : Order). i < size o) order below) (λ e. own_byte ring i (subst (λ (n : WordName). Elsewhere ring n) (sym e) other)))
     (kept orders words written (prod_word ring) value has (has_prod orders ring) (λ e. own_prod ring (subst (λ (n : WordName). Elsewhere ring n) (sym e) other)))
     (kept orders words written (cons_word ring) value has (has_cons orders ring) (λ e. own_cons ring (subst (λ (n : WordName). Elsewhere ring n) (sym e) other)))
@@ -114,8 +114,8 @@ flag_elsewhere Right SrvPending flag = tt
 flag_elsewhere _ _ flag = absurd flag
 
 -- an index below 2 ^ 32 is loaded whole
-low32-index : (start count word : ℕ) → word ≡ index_at start count → low32 word ≡ word
-low32-index start count word is = omega (arith, is)
+low32_index : (start count word : ℕ) → word ≡ index_at start count → low32 word ≡ word
+low32_index start count word is = omega (arith, is)
 
 -- words that were only loaded are as they were
 loaded_same : (orders : Orders) (words : List ℕ) (name : WordName) → slice_set words (index_of orders name) (slice_index words (index_of orders name)) ≡ words
@@ -130,9 +130,9 @@ writing r prod sent payload n = record r { own_prod = prod; sent = sent; payload
 wrote_loaded : (word : WordName) (role : Role) (r : Channel) (prod : ℕ) (sent payload : List ℕ) (n : TrailSummary) (index : ℕ) → (word ≡ cons_word (written_ring role) → index ≡ r.cons) →
     IsLawful (writing r prod sent payload n) → IsLawful (writing r prod sent payload (summary_loaded word role index n))
 wrote_loaded LeftCons Client r prod sent payload n index is w =
-    subst (λ (i : ℕ). IsLawful (record (writing r prod sent payload n) { cons_seen = Some i })) (sym (is refl)) (lawful-look_write (writing r prod sent payload n) w)
+    subst (λ (i : ℕ). IsLawful (record (writing r prod sent payload n) { cons_seen = Some i })) (sym (is refl)) (lawful_look_write (writing r prod sent payload n) w)
 wrote_loaded RightCons Server r prod sent payload n index is w =
-    subst (λ (i : ℕ). IsLawful (record (writing r prod sent payload n) { cons_seen = Some i })) (sym (is refl)) (lawful-look_write (writing r prod sent payload n) w)
+    subst (λ (i : ℕ). IsLawful (record (writing r prod sent payload n) { cons_seen = Some i })) (sym (is refl)) (lawful_look_write (writing r prod sent payload n) w)
 wrote_loaded LeftProd Server r prod sent payload n index is w = w
 wrote_loaded RightProd Client r prod sent payload n index is w = w
 wrote_loaded _ _ r prod sent payload n index is w = w
@@ -165,13 +165,13 @@ wrote_byte ring r orders words prod sent payload n index at order sized seen hid
     let was : IsLawful (writing (on_words r orders words ring) prod sent payload (record n { shown = false })) =
     subst (λ (m : TrailSummary). IsLawful (writing (on_words r orders words ring) prod sent payload m)) (hidden_path n hidden) w in
     let stepped =
-    lawful-store_byte (writing (on_words r orders words ring) prod sent payload (record n { shown = false })) index
+    lawful_store_byte (writing (on_words r orders words ring) prod sent payload (record n { shown = false })) index
     (λ i. word_at orders (slice_set words (index_of orders (RingByte ring (place (prod + n.stored) r.order))) (slice_index payload n.stored)) (RingByte ring i)) was seen here
     (written_there orders words (RingByte ring (place (prod + n.stored) r.order)) (slice_index payload n.stored) sized has)
     (λ i below apart. kept orders words (RingByte ring (place (prod + n.stored) r.order)) (RingByte ring i) (slice_index payload n.stored) has (subst (λ (o : Order). i < size o) order below)
     (λ e. apart (byte_place ring i (place (prod + n.stored) r.order) e))) in
     let then_lawful : IsLawful (writing (on_words r orders (slice_set words (index_of orders (RingByte ring (place (prod + n.stored) r.order))) (slice_index payload n.stored)) ring) prod sent payload (record n { shown = false; stored = n.stored + 1 })) =
-    lawful-same _ (λ i. word_at orders (slice_set words (index_of orders (RingByte ring (place (prod + n.stored) r.order))) (slice_index payload n.stored)) (RingByte ring i)) _ _ stepped (λ i below. refl)
+    lawful_same _ (λ i. word_at orders (slice_set words (index_of orders (RingByte ring (place (prod + n.stored) r.order))) (slice_index payload n.stored)) (RingByte ring i)) _ _ stepped (λ i below. refl)
     (kept orders words (RingByte ring (place (prod + n.stored) r.order)) (prod_word ring) (slice_index payload n.stored) has (has_prod orders ring) (prod_byte ring ring _))
     (kept orders words (RingByte ring (place (prod + n.stored) r.order)) (cons_word ring) (slice_index payload n.stored) has (has_cons orders ring) (cons_byte ring ring _)) in
     subst (λ (k : ℕ). IsLawful (writing (on_words r orders (slice_set words (index_of orders (RingByte ring (place (prod + k) r.order))) (slice_index payload k)) ring) prod sent payload (record n { stored = n.stored + 1 }))) (sym at_is)
@@ -185,10 +185,10 @@ wrote_index : (ring : Ring) (r : Channel) (orders : Orders) (words : List ℕ) (
 wrote_index ring r orders words prod sent payload n index value count order sized seen hidden fits is count_is has bytes w =
     let was : IsLawful (writing (on_words r orders words ring) prod sent payload (record n { shown = false })) =
     subst (λ (m : TrailSummary). IsLawful (writing (on_words r orders words ring) prod sent payload m)) (hidden_path n hidden) w in
-    let stepped = lawful-store_prod (writing (on_words r orders words ring) prod sent payload (record n { shown = false })) index was seen fits (omega (arith, count_is, has)) bytes in
+    let stepped = lawful_store_prod (writing (on_words r orders words ring) prod sent payload (record n { shown = false })) index was seen fits (omega (arith, count_is, has)) bytes in
     let low : low32 value ≡ (prod + n.stored) % 2 ^ 32 = omega (arith, is) in
     let then_lawful : IsLawful (writing (on_words r orders (slice_set words (index_of orders (prod_word ring)) value) ring) ((prod + n.stored) % 2 ^ 32) (sent ++ take n.stored payload) payload (record n { shown = true })) =
-    lawful-same _ (λ i. word_at orders (slice_set words (index_of orders (prod_word ring)) value) (RingByte ring i)) _ _ stepped
+    lawful_same _ (λ i. word_at orders (slice_set words (index_of orders (prod_word ring)) value) (RingByte ring i)) _ _ stepped
     (λ i below. kept orders words (prod_word ring) (RingByte ring i) value (has_prod orders ring) (subst (λ (o : Order). i < size o) order below) (λ e. prod_byte ring ring i (sym e)))
     (written_there orders words (prod_word ring) value sized (has_prod orders ring) ∙ is)
     (kept orders words (prod_word ring) (cons_word ring) value (has_prod orders ring) (has_cons orders ring) (cons_prod ring)) in
@@ -224,22 +224,22 @@ wrote_stored RightProd Client value r orders words e prod was sent payload trail
 wrote_stored LeftCons Client value r orders words e prod was sent payload trail n order sized has order_is prod_is count_is enough bytes owes w = absurd owes
 wrote_stored RightCons Server value r orders words e prod was sent payload trail n order sized has order_is prod_is count_is enough bytes owes w = absurd owes
 wrote_stored LeftCons Server value r orders words e prod was sent payload trail n order sized has order_is prod_is count_is enough bytes owes w =
-    lawful-elsewhere (writing r prod sent payload n) orders words Right LeftCons value order tt tt w
+    lawful_elsewhere (writing r prod sent payload n) orders words Right LeftCons value order tt tt w
 wrote_stored RightCons Client value r orders words e prod was sent payload trail n order sized has order_is prod_is count_is enough bytes owes w =
-    lawful-elsewhere (writing r prod sent payload n) orders words Left RightCons value order tt tt w
+    lawful_elsewhere (writing r prod sent payload n) orders words Left RightCons value order tt tt w
 wrote_stored (RingByte ring at) role value r orders words e prod was sent payload trail n order sized has order_is prod_is count_is enough bytes owes w = absurd owes
 wrote_stored CliLive Client zero r orders words e prod was sent payload trail n order sized has order_is prod_is count_is enough bytes owes w =
-    lawful-elsewhere (writing r prod sent payload n) orders words Left CliLive 0 order tt tt w
+    lawful_elsewhere (writing r prod sent payload n) orders words Left CliLive 0 order tt tt w
 wrote_stored CliLive Client (suc value) r orders words e prod was sent payload trail n order sized has order_is prod_is count_is enough bytes owes w =
-    lawful-elsewhere (writing r prod sent payload n) orders words Left CliLive (suc value) order tt tt w
+    lawful_elsewhere (writing r prod sent payload n) orders words Left CliLive (suc value) order tt tt w
 wrote_stored SrvLive Server zero r orders words e prod was sent payload trail n order sized has order_is prod_is count_is enough bytes owes w =
-    lawful-elsewhere (writing r prod sent payload n) orders words Right SrvLive 0 order tt tt w
+    lawful_elsewhere (writing r prod sent payload n) orders words Right SrvLive 0 order tt tt w
 wrote_stored SrvLive Server (suc value) r orders words e prod was sent payload trail n order sized has order_is prod_is count_is enough bytes owes w =
-    lawful-elsewhere (writing r prod sent payload n) orders words Right SrvLive (suc value) order tt tt w
+    lawful_elsewhere (writing r prod sent payload n) orders words Right SrvLive (suc value) order tt tt w
 wrote_stored word Server value r orders words e prod was sent payload trail n order sized has order_is prod_is count_is enough bytes owes w =
-    lawful-elsewhere (writing r prod sent payload n) orders words Right word value order has tt w
+    lawful_elsewhere (writing r prod sent payload n) orders words Right word value order has tt w
 wrote_stored word Client value r orders words e prod was sent payload trail n order sized has order_is prod_is count_is enough bytes owes w =
-    lawful-elsewhere (writing r prod sent payload n) orders words Left word value order has tt w
+    lawful_elsewhere (writing r prod sent payload n) orders words Left word value order has tt w
 
 -- ---- the reader's events
 
@@ -250,9 +250,9 @@ reading r cons got n = record r { own_cons = cons; got = got; prods_seen = n.pro
 read_loaded : (word : WordName) (role : Role) (r : Channel) (cons : ℕ) (got : List ℕ) (n : TrailSummary) (index : ℕ) → (word ≡ prod_word (read_ring role) → index ≡ r.prod) →
     IsLawful (reading r cons got n) → IsLawful (reading r cons got (summary_loaded word role index n))
 read_loaded LeftProd Server r cons got n index is w =
-    subst (λ (i : ℕ). IsLawful (record (reading r cons got n) { prods_seen = i ∷ n.prods_seen })) (sym (is refl)) (lawful-look_read (reading r cons got n) (omega arith) w)
+    subst (λ (i : ℕ). IsLawful (record (reading r cons got n) { prods_seen = i ∷ n.prods_seen })) (sym (is refl)) (lawful_look_read (reading r cons got n) (omega arith) w)
 read_loaded RightProd Client r cons got n index is w =
-    subst (λ (i : ℕ). IsLawful (record (reading r cons got n) { prods_seen = i ∷ n.prods_seen })) (sym (is refl)) (lawful-look_read (reading r cons got n) (omega arith) w)
+    subst (λ (i : ℕ). IsLawful (record (reading r cons got n) { prods_seen = i ∷ n.prods_seen })) (sym (is refl)) (lawful_look_read (reading r cons got n) (omega arith) w)
 read_loaded LeftCons Client r cons got n index is w = w
 read_loaded RightCons Server r cons got n index is w = w
 read_loaded _ _ r cons got n index is w = w
@@ -269,7 +269,7 @@ read_byte r cons got n index byte older seen held fits is w =
     let was : IsLawful (reading r cons got (record n { released = false })) = subst (λ (m : TrailSummary). IsLawful (reading r cons got m)) (held_path n held) w in
     let none : length got - 0 ≡ length got = omega arith in
     subst (λ (b : Bool). IsLawful (reading r cons got (record n { released = b; loaded = n.loaded ++ byte ∷ [] }))) (sym held)
-    (lawful-load_byte (reading r cons got (record n { released = false })) index byte older was none seen fits is)
+    (lawful_load_byte (reading r cons got (record n { released = false })) index byte older was none seen fits is)
 
 -- it stores its index
 read_index : (ring : Ring) (r : Channel) (orders : Orders) (words : List ℕ) (cons : ℕ) (got : List ℕ) (n : TrailSummary) (value : ℕ) (bytes : List ℕ) → r.order ≡ order_of orders ring → length words ≡ word_count orders →
@@ -279,11 +279,11 @@ read_index : (ring : Ring) (r : Channel) (orders : Orders) (words : List ℕ) (c
 read_index ring r orders words cons got n value bytes order sized held is bytes_are w =
     let was : IsLawful (reading (on_words r orders words ring) cons got (record n { released = false })) =
     subst (λ (m : TrailSummary). IsLawful (reading (on_words r orders words ring) cons got m)) (held_path n held) w in
-    let stepped = lawful-store_cons (reading (on_words r orders words ring) cons got (record n { released = false })) was in
+    let stepped = lawful_store_cons (reading (on_words r orders words ring) cons got (record n { released = false })) was in
     let low : low32 value ≡ (cons + length n.loaded) % 2 ^ 32 = omega (arith, is) in
     let before : length got - 0 ≡ length (got ++ n.loaded) - length n.loaded = omega (arith, length-append got n.loaded) in
     let then_lawful : IsLawful (record (reading (on_words r orders (slice_set words (index_of orders (cons_word ring)) value) ring) ((cons + length n.loaded) % 2 ^ 32) (got ++ n.loaded) (record n { released = true })) { got_before = length got - 0 }) =
-    lawful-same _ (λ i. word_at orders (slice_set words (index_of orders (cons_word ring)) value) (RingByte ring i)) _ _ stepped
+    lawful_same _ (λ i. word_at orders (slice_set words (index_of orders (cons_word ring)) value) (RingByte ring i)) _ _ stepped
     (λ i below. kept orders words (cons_word ring) (RingByte ring i) value (has_cons orders ring) (subst (λ (o : Order). i < size o) order below) (λ e. cons_byte ring ring i (sym e)))
     (kept orders words (cons_word ring) (prod_word ring) value (has_cons orders ring) (has_prod orders ring) (prod_cons ring))
     (written_there orders words (cons_word ring) value sized (has_cons orders ring) ∙ is) in
@@ -313,22 +313,22 @@ read_stored RightProd Client value r orders words e cons was got trail n order s
 read_stored LeftCons Client value r orders words e cons was got trail n order sized has cons_is bytes_are owes w = absurd owes
 read_stored RightCons Server value r orders words e cons was got trail n order sized has cons_is bytes_are owes w = absurd owes
 read_stored LeftProd Client value r orders words e cons was got trail n order sized has cons_is bytes_are owes w =
-    lawful-elsewhere (reading r cons got n) orders words Right LeftProd value order tt tt w
+    lawful_elsewhere (reading r cons got n) orders words Right LeftProd value order tt tt w
 read_stored RightProd Server value r orders words e cons was got trail n order sized has cons_is bytes_are owes w =
-    lawful-elsewhere (reading r cons got n) orders words Left RightProd value order tt tt w
+    lawful_elsewhere (reading r cons got n) orders words Left RightProd value order tt tt w
 read_stored (RingByte ring at) role value r orders words e cons was got trail n order sized has cons_is bytes_are owes w = absurd owes
 read_stored CliLive Client zero r orders words e cons was got trail n order sized has cons_is bytes_are owes w =
-    lawful-elsewhere (reading r cons got n) orders words Right CliLive 0 order tt tt w
+    lawful_elsewhere (reading r cons got n) orders words Right CliLive 0 order tt tt w
 read_stored CliLive Client (suc value) r orders words e cons was got trail n order sized has cons_is bytes_are owes w =
-    lawful-elsewhere (reading r cons got n) orders words Right CliLive (suc value) order tt tt w
+    lawful_elsewhere (reading r cons got n) orders words Right CliLive (suc value) order tt tt w
 read_stored SrvLive Server zero r orders words e cons was got trail n order sized has cons_is bytes_are owes w =
-    lawful-elsewhere (reading r cons got n) orders words Left SrvLive 0 order tt tt w
+    lawful_elsewhere (reading r cons got n) orders words Left SrvLive 0 order tt tt w
 read_stored SrvLive Server (suc value) r orders words e cons was got trail n order sized has cons_is bytes_are owes w =
-    lawful-elsewhere (reading r cons got n) orders words Left SrvLive (suc value) order tt tt w
+    lawful_elsewhere (reading r cons got n) orders words Left SrvLive (suc value) order tt tt w
 read_stored word Server value r orders words e cons was got trail n order sized has cons_is bytes_are owes w =
-    lawful-elsewhere (reading r cons got n) orders words Left word value order has tt w
+    lawful_elsewhere (reading r cons got n) orders words Left word value order has tt w
 read_stored word Client value r orders words e cons was got trail n order sized has cons_is bytes_are owes w =
-    lawful-elsewhere (reading r cons got n) orders words Right word value order has tt w
+    lawful_elsewhere (reading r cons got n) orders words Right word value order has tt w
 
 -- ---- an event of an end
 
@@ -340,7 +340,7 @@ other_byte Client at = tt
 module _ (start : ℕ) (words : List ℕ) (s other : Side) (b : Begun) (c : IsLawfulCall s b) (sized : length words ≡ word_count s.orders) where
   few : count_stored s.trail ≤ length s.payload
   few =
-      omega (arith, (counts_within (begun_standing s b) b.call s.trail (rest_after (plan_of (begun_standing s b) b.call) s.trail) c.led).0, stored_most-payload (begun_standing s b) b.call, c.pays)
+      omega (arith, (counts_within (begun_standing s b) b.call s.trail (rest_after (plan_of (begun_standing s b) b.call) s.trail) c.led).0, stored_most_payload (begun_standing s b) b.call, c.pays)
 
   -- the ring that it writes
   wrote : (op : Op) → OwesSound (begun_standing s b) (summary s.role s.trail) op → OwesNext s b op → IsLawful (channel_between start s.orders words (written_ring s.role) s other) →
@@ -350,12 +350,12 @@ module _ (start : ℕ) (words : List ℕ) (s other : Side) (b : Begun) (c : IsLa
       subst (λ (new : List ℕ). IsLawful (writing (channel_between start s.orders new (written_ring s.role) s other) s.prod s.sent s.payload (summary_loaded word s.role (low32 (word_at s.orders words word)) (summary s.role s.trail))))
       (sym (loaded_same s.orders words word))
       (wrote_loaded word s.role (channel_between start s.orders words (written_ring s.role) s other) s.prod s.sent s.payload (summary s.role s.trail) (low32 (word_at s.orders words word))
-      (λ e. ap (λ (name : WordName). low32 (word_at s.orders words name)) e ∙ low32-index start (length other.got) _ w.cons) w)
+      (λ e. ap (λ (name : WordName). low32 (word_at s.orders words name)) e ∙ low32_index start (length other.got) _ w.cons) w)
   wrote (LoadByte word at) owes counts w =
       subst (λ (new : List ℕ). IsLawful (channel_between start s.orders new (written_ring s.role) s other)) (sym (loaded_same s.orders words word)) w
   wrote (Store word value) owes counts w =
       wrote_stored word s.role value (channel_between start s.orders words (written_ring s.role) s other) s.orders words (begun_standing s b) s.prod _ s.sent s.payload s.trail (summary s.role s.trail)
-      refl sized counts.1 refl c.prod (stored-is s.role s.trail) few c.bytes owes w
+      refl sized counts.1 refl c.prod (stored_is s.role s.trail) few c.bytes owes w
   wrote (StoreByte word at) owes counts w =
       let same : s.prod ≡ b.prod = not_yet (summary s.role s.trail).shown _ b.prod s.prod owes.not_shown c.prod in
       let there : word ≡ RingByte (written_ring s.role) (place (s.prod + at) (order_of s.orders (written_ring s.role))) =
@@ -365,11 +365,11 @@ module _ (start : ℕ) (words : List ℕ) (s other : Side) (b : Begun) (c : IsLa
       (wrote_byte (written_ring s.role) (channel_between start s.orders words (written_ring s.role) s other) s.orders words s.prod s.sent s.payload (summary s.role s.trail) owes.index at refl sized owes.seen owes.not_shown owes.at_is
       (subst (λ (p : ℕ). at < room p owes.index (order_of s.orders (written_ring s.role))) (sym same) owes.has_room) w)
   wrote (Or word bits) owes counts w =
-      lawful-elsewhere (channel_between start s.orders words (written_ring s.role) s other) s.orders words (written_ring s.role) word _ refl counts (flag_elsewhere (written_ring s.role) word owes) w
+      lawful_elsewhere (channel_between start s.orders words (written_ring s.role) s other) s.orders words (written_ring s.role) word _ refl counts (flag_elsewhere (written_ring s.role) word owes) w
   wrote (And word bits) owes counts w =
-      lawful-elsewhere (channel_between start s.orders words (written_ring s.role) s other) s.orders words (written_ring s.role) word _ refl counts (flag_elsewhere (written_ring s.role) word owes) w
+      lawful_elsewhere (channel_between start s.orders words (written_ring s.role) s other) s.orders words (written_ring s.role) word _ refl counts (flag_elsewhere (written_ring s.role) word owes) w
   wrote (Swap word value) owes counts w =
-      lawful-elsewhere (channel_between start s.orders words (written_ring s.role) s other) s.orders words (written_ring s.role) word _ refl counts (flag_elsewhere (written_ring s.role) word owes) w
+      lawful_elsewhere (channel_between start s.orders words (written_ring s.role) s other) s.orders words (written_ring s.role) word _ refl counts (flag_elsewhere (written_ring s.role) word owes) w
   wrote Nothing owes counts w = absurd owes
 
   -- the ring that it reads
@@ -380,7 +380,7 @@ module _ (start : ℕ) (words : List ℕ) (s other : Side) (b : Begun) (c : IsLa
       subst (λ (new : List ℕ). IsLawful (reading (channel_between start s.orders new (read_ring s.role) other s) s.cons s.got (summary_loaded word s.role (low32 (word_at s.orders words word)) (summary s.role s.trail))))
       (sym (loaded_same s.orders words word))
       (read_loaded word s.role (channel_between start s.orders words (read_ring s.role) other s) s.cons s.got (summary s.role s.trail) (low32 (word_at s.orders words word))
-      (λ e. ap (λ (name : WordName). low32 (word_at s.orders words name)) e ∙ low32-index start (length other.sent) _ w.prod) w)
+      (λ e. ap (λ (name : WordName). low32 (word_at s.orders words name)) e ∙ low32_index start (length other.sent) _ w.prod) w)
   read (LoadByte word at) owes counts w =
       let same : s.cons ≡ b.cons = not_yet (summary s.role s.trail).released _ b.cons s.cons owes.not_released c.cons in
       let there : word ≡ RingByte (read_ring s.role) (place (s.cons + length (summary s.role s.trail).loaded) (order_of s.orders (read_ring s.role))) =
@@ -394,26 +394,26 @@ module _ (start : ℕ) (words : List ℕ) (s other : Side) (b : Begun) (c : IsLa
       (ap (λ (name : WordName). word_at s.orders words name % 2 ^ 8) there) w)
   read (Store word value) owes counts w =
       read_stored word s.role value (channel_between start s.orders words (read_ring s.role) other s) s.orders words (begun_standing s b) s.cons _ s.got s.trail (summary s.role s.trail)
-      refl sized counts.1 c.cons (loaded-is s.role s.trail) owes w
+      refl sized counts.1 c.cons (loaded_is s.role s.trail) owes w
   read (StoreByte word at) owes counts w =
       let there : word ≡ RingByte (written_ring s.role) (place (b.prod + at) (order_of s.orders (written_ring s.role))) = owes.word_is in
-      lawful-elsewhere (channel_between start s.orders words (read_ring s.role) other s) s.orders words (read_ring s.role) word _ refl counts.2 (subst (λ (name : WordName). Elsewhere (read_ring s.role) name) (sym there) (other_byte s.role _)) w
+      lawful_elsewhere (channel_between start s.orders words (read_ring s.role) other s) s.orders words (read_ring s.role) word _ refl counts.2 (subst (λ (name : WordName). Elsewhere (read_ring s.role) name) (sym there) (other_byte s.role _)) w
   read (Or word bits) owes counts w =
-      lawful-elsewhere (channel_between start s.orders words (read_ring s.role) other s) s.orders words (read_ring s.role) word _ refl counts (flag_elsewhere (read_ring s.role) word owes) w
+      lawful_elsewhere (channel_between start s.orders words (read_ring s.role) other s) s.orders words (read_ring s.role) word _ refl counts (flag_elsewhere (read_ring s.role) word owes) w
   read (And word bits) owes counts w =
-      lawful-elsewhere (channel_between start s.orders words (read_ring s.role) other s) s.orders words (read_ring s.role) word _ refl counts (flag_elsewhere (read_ring s.role) word owes) w
+      lawful_elsewhere (channel_between start s.orders words (read_ring s.role) other s) s.orders words (read_ring s.role) word _ refl counts (flag_elsewhere (read_ring s.role) word owes) w
   read (Swap word value) owes counts w =
-      lawful-elsewhere (channel_between start s.orders words (read_ring s.role) other s) s.orders words (read_ring s.role) word _ refl counts (flag_elsewhere (read_ring s.role) word owes) w
+      lawful_elsewhere (channel_between start s.orders words (read_ring s.role) other s) s.orders words (read_ring s.role) word _ refl counts (flag_elsewhere (read_ring s.role) word owes) w
   read Nothing owes counts w = absurd owes
 
   pub wrote_made : (op : Op) → OwesSound (begun_standing s b) (summary s.role s.trail) op → OwesNext s b op → IsLawful (channel_between start s.orders words (written_ring s.role) s other) →
       IsLawful (channel_between start s.orders (words_after s.orders words s.payload op) (written_ring s.role) (made s op (value_taken s.orders words op)) other)
   wrote_made op owes counts w =
       subst (λ (n : TrailSummary). IsLawful (writing (channel_between start s.orders (words_after s.orders words s.payload op) (written_ring s.role) s other) (prod_after op s.role s.prod) (sent_after op s) s.payload n))
-      (sym (summary-push s.role empty_summary s.trail op (value_taken s.orders words op))) (wrote op owes counts w)
+      (sym (summary_push s.role empty_summary s.trail op (value_taken s.orders words op))) (wrote op owes counts w)
 
   pub read_made : (op : Op) → OwesSound (begun_standing s b) (summary s.role s.trail) op → OwesNext s b op → IsLawful (channel_between start s.orders words (read_ring s.role) other s) →
       IsLawful (channel_between start s.orders (words_after s.orders words s.payload op) (read_ring s.role) other (made s op (value_taken s.orders words op)))
   read_made op owes counts w =
       subst (λ (n : TrailSummary). IsLawful (reading (channel_between start s.orders (words_after s.orders words s.payload op) (read_ring s.role) other s) (cons_after op s.role s.cons) (got_after op s) n))
-      (sym (summary-push s.role empty_summary s.trail op (value_taken s.orders words op))) (read op owes counts w)
+      (sym (summary_push s.role empty_summary s.trail op (value_taken s.orders words op))) (read op owes counts w)

@@ -26,7 +26,7 @@ use Rattle.vchan_protocol.specs.Honest.Lawful.{Lawful, Honest, IsEnd}
 use Rattle.vchan_protocol.specs.History.TrailSummary.{summary}
 use Rattle.vchan_protocol.specs.Hostile.TurnedLaw.{TurnedLawful, KeepsCounts, ConsumedLawful, ListsStand, ListsGrow, LiesAtCount, turned_core}
 use Rattle.vchan_protocol.proofs.Table.Counted.{OwesIndex, counts_within}
-use Rattle.vchan_protocol.proofs.History.EventLaws.{OwesNext, stored_most-payload}
+use Rattle.vchan_protocol.proofs.History.EventLaws.{OwesNext, stored_most_payload}
 use Rattle.vchan_protocol.proofs.Table.Sound.{OwesSound}
 use Rattle.vchan_protocol.proofs.Honest.EndSteps.{InLawful, in_lawful, owes_now, counts_now, call_begins, call_goes_on, not_yet}
 use Rattle.vchan_protocol.proofs.Honest.LifeSteps.{got_grows}
@@ -62,7 +62,7 @@ made_cons start s b _ is owes = is
 few_stored : (s : Side) (i : InLawful s) → count_stored s.trail ≤ length s.payload
 few_stored s i =
     let e = begun_standing s i.begun in
-    omega (arith, (counts_within e i.begun.call s.trail (plan_left s) i.led).0, i.lawful.pays, stored_most-payload e i.begun.call)
+    omega (arith, (counts_within e i.begun.call s.trail (plan_left s) i.led).0, i.lawful.pays, stored_most_payload e i.begun.call)
 
 settled_counts : (start : ℕ) (s : Side) (plan : Plan) → s.prod ≡ index_at start (length s.sent) → s.cons ≡ index_at start (length s.got) → CallLawful (settled s plan) → KeepsCounts start (settled s plan)
 settled_counts start s (answers answer) prod cons call = record { prod = prod; cons = cons; call = call }
@@ -188,18 +188,18 @@ turned_begin core Client call payload h honest idle allowed pays bytes = record 
 
 -- ---- an end is turned
 
-pub turned-turned_side : (s : Side) (consumed : ℕ) → (turned_side s consumed).turned ≡ true
-turned-turned_side s consumed = go s.turned refl
+pub turned_turned_side : (s : Side) (consumed : ℕ) → (turned_side s consumed).turned ≡ true
+turned_turned_side s consumed = go s.turned refl
   where
     go : (b : Bool) → s.turned ≡ b → (cond b s (turns s consumed)).turned ≡ true
     go true is = is
     go false is = refl
 
-pub turned_side-honest : (s : Side) (consumed : ℕ) → s.turned ≡ false → turned_side s consumed ≡ turns s consumed
-turned_side-honest s consumed honest = ap (λ (b : Bool). cond b s (turns s consumed)) honest
+pub turned_side_honest : (s : Side) (consumed : ℕ) → s.turned ≡ false → turned_side s consumed ≡ turns s consumed
+turned_side_honest s consumed honest = ap (λ (b : Bool). cond b s (turns s consumed)) honest
 
-pub turned_side-given : (s : Side) (consumed : ℕ) → s.turned ≡ true → turned_side s consumed ≡ s
-turned_side-given s consumed given = ap (λ (b : Bool). cond b s (turns s consumed)) given
+pub turned_side_given : (s : Side) (consumed : ℕ) → s.turned ≡ true → turned_side s consumed ≡ s
+turned_side_given s consumed given = ap (λ (b : Bool). cond b s (turns s consumed)) given
 
 -- the ring of a writer that is turned now
 now_given : (size : ℕ) (writer reader : Side) → IsPrefixOf reader.got writer.sent → length writer.sent ≤ length reader.got + size → ConsumedLawful size (turns writer (length reader.got)) reader
@@ -210,7 +210,7 @@ now_given size writer reader begins fits = record {
 }
 
 pub first_turn : (core : Core) (who : Role) → Lawful core → Honest core → TurnedLawful (turned_core core who)
-first_turn core Server h honest = subst (λ (s : Side). TurnedLawful (with_side core Server s)) (sym (turned_side-honest core.server (length core.client.got) honest.0)) (record {
+first_turn core Server h honest = subst (λ (s : Side). TurnedLawful (with_side core Server s)) (sym (turned_side_honest core.server (length core.client.got) honest.0)) (record {
   sized = h.sized;
   server_end = record { role_is = h.server_end.role_is; orders_are = h.server_end.orders_are };
   client_end = h.client_end;
@@ -219,7 +219,7 @@ first_turn core Server h honest = subst (λ (s : Side). TurnedLawful (with_side 
   left = λ given is. absurd (apart core.client.turned given honest.1);
   right = λ given is. now_given (size core.orders.right) core.server core.client h.right.lawful.prefix h.right.lawful.fits;
 })
-first_turn core Client h honest = subst (λ (s : Side). TurnedLawful (with_side core Client s)) (sym (turned_side-honest core.client (length core.server.got) honest.1)) (record {
+first_turn core Client h honest = subst (λ (s : Side). TurnedLawful (with_side core Client s)) (sym (turned_side_honest core.client (length core.server.got) honest.1)) (record {
   sized = h.sized;
   server_end = h.server_end;
   client_end = record { role_is = h.client_end.role_is; orders_are = h.client_end.orders_are };
@@ -233,8 +233,8 @@ pub second_turn : (core : Core) (who : Role) → TurnedLawful core → (side_of 
 second_turn core Server h other = go core.server.turned refl
   where
     go : (b : Bool) → core.server.turned ≡ b → TurnedLawful (with_side core Server (turned_side core.server (length core.client.got)))
-    go true given = subst (λ (s : Side). TurnedLawful (with_side core Server s)) (sym (turned_side-given core.server (length core.client.got) given)) h
-    go false honest = subst (λ (s : Side). TurnedLawful (with_side core Server s)) (sym (turned_side-honest core.server (length core.client.got) honest)) (record {
+    go true given = subst (λ (s : Side). TurnedLawful (with_side core Server s)) (sym (turned_side_given core.server (length core.client.got) given)) h
+    go false honest = subst (λ (s : Side). TurnedLawful (with_side core Server s)) (sym (turned_side_honest core.server (length core.client.got) honest)) (record {
       sized = h.sized;
       server_end = record { role_is = h.server_end.role_is; orders_are = h.server_end.orders_are };
       client_end = h.client_end;
@@ -246,8 +246,8 @@ second_turn core Server h other = go core.server.turned refl
 second_turn core Client h other = go core.client.turned refl
   where
     go : (b : Bool) → core.client.turned ≡ b → TurnedLawful (with_side core Client (turned_side core.client (length core.server.got)))
-    go true given = subst (λ (s : Side). TurnedLawful (with_side core Client s)) (sym (turned_side-given core.client (length core.server.got) given)) h
-    go false honest = subst (λ (s : Side). TurnedLawful (with_side core Client s)) (sym (turned_side-honest core.client (length core.server.got) honest)) (record {
+    go true given = subst (λ (s : Side). TurnedLawful (with_side core Client s)) (sym (turned_side_given core.client (length core.server.got) given)) h
+    go false honest = subst (λ (s : Side). TurnedLawful (with_side core Client s)) (sym (turned_side_honest core.client (length core.server.got) honest)) (record {
       sized = h.sized;
       server_end = h.server_end;
       client_end = record { role_is = h.client_end.role_is; orders_are = h.client_end.orders_are };
@@ -266,10 +266,10 @@ stray core Server op h =
       sized = sized_after core.orders core.words [] op _ h.sized;
       server_end = record { role_is = h.server_end.role_is; orders_are = h.server_end.orders_are };
       client_end = h.client_end;
-      server = λ is. absurd (apart s.turned (turned-turned_side core.server (length core.client.got)) is);
+      server = λ is. absurd (apart s.turned (turned_turned_side core.server (length core.client.got)) is);
       client = h.client;
-      left = λ given is. absurd (apart s.turned (turned-turned_side core.server (length core.client.got)) is);
-      right = λ given is. let r = h.right (turned-turned_side core.server (length core.client.got)) is in record { within = r.within; fits = r.fits; begins = r.begins };
+      left = λ given is. absurd (apart s.turned (turned_turned_side core.server (length core.client.got)) is);
+      right = λ given is. let r = h.right (turned_turned_side core.server (length core.client.got)) is in record { within = r.within; fits = r.fits; begins = r.begins };
     }
 stray core Client op h =
     let s = turned_side core.client (length core.server.got) in
@@ -278,28 +278,28 @@ stray core Client op h =
       server_end = h.server_end;
       client_end = record { role_is = h.client_end.role_is; orders_are = h.client_end.orders_are };
       server = h.server;
-      client = λ is. absurd (apart s.turned (turned-turned_side core.client (length core.server.got)) is);
-      left = λ given is. let r = h.left (turned-turned_side core.client (length core.server.got)) is in record { within = r.within; fits = r.fits; begins = r.begins };
-      right = λ given is. absurd (apart s.turned (turned-turned_side core.client (length core.server.got)) is);
+      client = λ is. absurd (apart s.turned (turned_turned_side core.client (length core.server.got)) is);
+      left = λ given is. let r = h.left (turned_turned_side core.client (length core.server.got)) is in record { within = r.within; fits = r.fits; begins = r.begins };
+      right = λ given is. absurd (apart s.turned (turned_turned_side core.client (length core.server.got)) is);
     }
 
 pub turned_core_again : (core : Core) (who : Role) → (side_of core who).turned ≡ true → turned_core core who ≡ core
-turned_core_again core Server given = ap (λ (s : Side). record core { server = s }) (turned_side-given core.server (length core.client.got) given)
-turned_core_again core Client given = ap (λ (s : Side). record core { client = s }) (turned_side-given core.client (length core.server.got) given)
+turned_core_again core Server given = ap (λ (s : Side). record core { server = s }) (turned_side_given core.server (length core.client.got) given)
+turned_core_again core Client given = ap (λ (s : Side). record core { client = s }) (turned_side_given core.client (length core.server.got) given)
 
 pub stray_again : (core : Core) (who : Role) (op : Op) → TurnedLawful core → (side_of core who).turned ≡ true → TurnedLawful (strayed core who op)
 stray_again core who op h given = stray core who op (subst TurnedLawful (sym (turned_core_again core who given)) h)
 
 stands_given : (s : Side) (consumed : ℕ) → s.turned ≡ true → ListsStand s (turned_side s consumed)
-stands_given s consumed given = subst (λ (t : Side). ListsStand s t) (sym (turned_side-given s consumed given)) (record { turned = refl; sent = refl; got = refl; consumed = refl })
+stands_given s consumed given = subst (λ (t : Side). ListsStand s t) (sym (turned_side_given s consumed given)) (record { turned = refl; sent = refl; got = refl; consumed = refl })
 
 stands_strayed : (s : Side) (consumed taken : ℕ) (op : Op) → s.turned ≡ true → ListsStand s (strays (turned_side s consumed) op taken)
 stands_strayed s consumed taken op given = let h = stands_given s consumed given in record { turned = h.turned; sent = h.sent; got = h.got; consumed = h.consumed }
 
 pub stray_keeps : (core : Core) (who : Role) (op : Op) →
     (side_of (strayed core who op) (peer who) ≡ side_of core (peer who)) × ((side_of (strayed core who op) who).turned ≡ true) × ((side_of core who).turned ≡ true → ListsStand (side_of core who) (side_of (strayed core who op) who))
-stray_keeps core Server op = (refl, turned-turned_side core.server (length core.client.got), stands_strayed core.server (length core.client.got) (value_taken core.orders core.words op) op)
-stray_keeps core Client op = (refl, turned-turned_side core.client (length core.server.got), stands_strayed core.client (length core.server.got) (value_taken core.orders core.words op) op)
+stray_keeps core Server op = (refl, turned_turned_side core.server (length core.client.got), stands_strayed core.server (length core.client.got) (value_taken core.orders core.words op) op)
+stray_keeps core Client op = (refl, turned_turned_side core.client (length core.server.got), stands_strayed core.client (length core.server.got) (value_taken core.orders core.words op) op)
 
 -- ---- the places of an honest end's bytes
 

@@ -6,7 +6,7 @@ use Rattle.std.proofs.lemmas.List.{get_or-set_same, get_or-set_other, length-app
 use Rattle.std.proofs.lemmas.List.Elements.{All-take}
 use Rattle.ring_words.specs.Rings.{size, place, ready, room}
 use Rattle.ring_words.specs.Page.{index_of, order_of, word_count}
-use Rattle.ring_words.proofs.RingLaws.{place_apart, place_wraps, diff_counts, size-within, place_within}
+use Rattle.ring_words.proofs.RingLaws.{place_apart, place_wraps, diff_counts, size_within, place_within}
 use Rattle.ring_words.specs.declared.order.Order.{Order}
 use Rattle.ring_words.specs.declared.order.Orders.{Orders}
 use Rattle.ring_words.specs.declared.page.Role.{Role}
@@ -15,7 +15,7 @@ use Rattle.ring_words.specs.declared.page.Ring.{Ring}
 use Rattle.ring_words.specs.declared.page.Ring.TheVariants.{Left, Right}
 use Rattle.ring_words.specs.declared.page.WordName.{WordName}
 use Rattle.ring_words.specs.declared.page.WordName.TheVariants.{RingByte, CliLive}
-use Rattle.ring_words.proofs.ImageLaws.{index_of-byte}
+use Rattle.ring_words.proofs.ImageLaws.{index_of_byte}
 use Rattle.vchan_protocol.specs.declared.op.Op.{Op}
 use Rattle.vchan_protocol.specs.declared.op.Op.TheVariants.{Load, LoadByte, Store, StoreByte, Or, And, Swap}
 use Rattle.vchan_protocol.specs.declared.op.PastEvent.{PastEvent}
@@ -36,7 +36,7 @@ use Rattle.vchan_protocol.specs.History.WholeCall.{alone}
 use Rattle.vchan_protocol.specs.Honest.RingLaw.{AreBytes}
 use Rattle.vchan_protocol.specs.Lists.ListCall.{ListEnd, ChannelLists, Outcome, end_of, with_end, index, waiting, avail, free, only, sent_out, got_in}
 use Rattle.vchan_protocol.specs.Lists.ListLaw.{IsTold, count_got}
-use Rattle.vchan_protocol.proofs.History.WholeCallLaws.{bytes_loaded-push}
+use Rattle.vchan_protocol.proofs.History.WholeCallLaws.{bytes_loaded_push}
 use Rattle.vchan_protocol.proofs.Lists.ListTells.{Told, told, at, Tells, tells_flags, tells_byte, tells_sent, tells_got, tells_state, tells_gone}
 use Rattle.vchan_protocol.specs.History.Peer.{peer}
 
@@ -51,15 +51,15 @@ abbrev pub core_by : Role → ChannelLists → List ℕ → Side → Side → Co
 core_by Server channel words mine theirs = record { start = channel.start; said = channel.said; orders = channel.orders; words = words; server = mine; client = theirs }
 core_by Client channel words mine theirs = record { start = channel.start; said = channel.said; orders = channel.orders; words = words; server = theirs; client = mine }
 
-pub alone-run : (who : Role) (channel : ChannelLists) (words : List ℕ) (mine theirs : Side) (plan : Plan) →
+pub alone_run : (who : Role) (channel : ChannelLists) (words : List ℕ) (mine theirs : Side) (plan : Plan) →
     alone (core_by who channel words mine theirs) who plan ≡ (core_by who channel (run channel.orders words mine plan).0 (run channel.orders words mine plan).1 theirs, (run channel.orders words mine plan).2)
 unfolding alone run
-alone-run Server channel words mine theirs (answers answer) = refl
-alone-run Server channel words mine theirs (does op next) =
-    alone-run Server channel (words_after channel.orders words mine.payload op) (made mine op (value_taken channel.orders words op)) theirs (next (value_taken channel.orders words op))
-alone-run Client channel words mine theirs (answers answer) = refl
-alone-run Client channel words mine theirs (does op next) =
-    alone-run Client channel (words_after channel.orders words mine.payload op) (made mine op (value_taken channel.orders words op)) theirs (next (value_taken channel.orders words op))
+alone_run Server channel words mine theirs (answers answer) = refl
+alone_run Server channel words mine theirs (does op next) =
+    alone_run Server channel (words_after channel.orders words mine.payload op) (made mine op (value_taken channel.orders words op)) theirs (next (value_taken channel.orders words op))
+alone_run Client channel words mine theirs (answers answer) = refl
+alone_run Client channel words mine theirs (does op next) =
+    alone_run Client channel (words_after channel.orders words mine.payload op) (made mine op (value_taken channel.orders words op)) theirs (next (value_taken channel.orders words op))
 
 -- how an end stands that begins a call
 abbrev pub standing_by : Role → ChannelLists → Standing
@@ -73,21 +73,21 @@ standing_by who channel = record {
 
 -- ---- numbers
 
-pub low32-index : (start : ℕ) (list : List ℕ) → low32 (index start list) ≡ index start list
-low32-index start list = omega arith
+pub low32_index : (start : ℕ) (list : List ℕ) → low32 (index start list) ≡ index start list
+low32_index start list = omega arith
 
-place-index : (start i : ℕ) (list : List ℕ) (order : Order) → place (index start list + i) order ≡ place (start + length list + i) order
-place-index start i list order =
+place_index : (start i : ℕ) (list : List ℕ) (order : Order) → place (index start list + i) order ≡ place (start + length list + i) order
+place_index start i list order =
     sym (place_wraps (index start list + i) order) ∙ ap (λ (n : ℕ). place n order) (omega arith) ∙ place_wraps (start + length list + i) order
 
-index-more : (start k : ℕ) (list more : List ℕ) → length more ≡ k → (index start list + k) % 2 ^ 32 ≡ index start (list ++ more)
-index-more start k list more is = omega (arith, is, length-append list more)
+index_more : (start k : ℕ) (list more : List ℕ) → length more ≡ k → (index start list + k) % 2 ^ 32 ≡ index start (list ++ more)
+index_more start k list more is = omega (arith, is, length-append list more)
 
 room_is : (start : ℕ) (sent got : List ℕ) (order : Order) → length got ≤ length sent → length sent ≤ length got + size order →
     room (index start sent) (index start got) order ≡ size order - (length sent - length got)
 unfolding room
 room_is start sent got order low fits =
-    let large = size-within order in
+    let large = size_within order in
     let d = diff_counts start (length sent) (length got) low (omega (arith, fits, large.1)) in
     rw d (grind (arith, nat_tests))
 
@@ -95,13 +95,13 @@ ready_is : (start : ℕ) (sent got : List ℕ) (order : Order) → length got �
     ready (index start sent) (index start got) order ≡ length sent - length got
 unfolding ready
 ready_is start sent got order low fits =
-    let large = size-within order in
+    let large = size_within order in
     let d = diff_counts start (length sent) (length got) low (omega (arith, fits, large.1)) in
     rw d (grind (arith, nat_tests))
 
-count_stored-push : (events : List PastEvent) (op : Op) (taken : ℕ) → count_stored (events ++ past op taken ∷ []) ≡ count_stored events + stored_by op
-count_stored-push [] op taken = omega arith
-count_stored-push (event ∷ events) op taken = omega (arith, count_stored-push events op taken)
+count_stored_push : (events : List PastEvent) (op : Op) (taken : ℕ) → count_stored (events ++ past op taken ∷ []) ≡ count_stored events + stored_by op
+count_stored_push [] op taken = omega arith
+count_stored_push (event ∷ events) op taken = omega (arith, count_stored_push events op taken)
 
 pub byte_in : (orders : Orders) (ring : Ring) (k : ℕ) → k < size (order_of orders ring) → index_of orders (RingByte ring k) < word_count orders
 byte_in orders Left k h = omega (arith, h)
@@ -125,28 +125,28 @@ own_flag orders Client = (omega arith, omega arith)
 
 -- ---- what an end's stores tell of it
 
-told-pending : (who : Role) (s : Side) (v x : ℕ) → told (made s (Store (peer_pending who) v) x) ≡ told s
-told-pending Server s v x = refl
-told-pending Client s v x = refl
+told_pending : (who : Role) (s : Side) (v x : ℕ) → told (made s (Store (peer_pending who) v) x) ≡ told s
+told_pending Server s v x = refl
+told_pending Client s v x = refl
 
-told-prod : (who : Role) (s : Side) (v x : ℕ) → s.role ≡ who → told (made s (Store (prod_word (written_ring who)) v) x) ≡ record (told s) { prod = low32 v; sent = s.sent ++ take (count_stored s.trail) s.payload }
-told-prod Server s v x is = ap (λ (r : Role). record (told s) { prod = prod_stored (prod_word Right) r v s.prod; sent = sent_stored (prod_word Right) r s.trail s.payload s.sent }) is
-told-prod Client s v x is = ap (λ (r : Role). record (told s) { prod = prod_stored (prod_word Left) r v s.prod; sent = sent_stored (prod_word Left) r s.trail s.payload s.sent }) is
+told_prod : (who : Role) (s : Side) (v x : ℕ) → s.role ≡ who → told (made s (Store (prod_word (written_ring who)) v) x) ≡ record (told s) { prod = low32 v; sent = s.sent ++ take (count_stored s.trail) s.payload }
+told_prod Server s v x is = ap (λ (r : Role). record (told s) { prod = prod_stored (prod_word Right) r v s.prod; sent = sent_stored (prod_word Right) r s.trail s.payload s.sent }) is
+told_prod Client s v x is = ap (λ (r : Role). record (told s) { prod = prod_stored (prod_word Left) r v s.prod; sent = sent_stored (prod_word Left) r s.trail s.payload s.sent }) is
 
-told-cons : (who : Role) (s : Side) (v x : ℕ) → s.role ≡ who → told (made s (Store (cons_word (read_ring who)) v) x) ≡ record (told s) { cons = low32 v; got = s.got ++ bytes_loaded s.trail }
-told-cons Server s v x is = ap (λ (r : Role). record (told s) { cons = cons_stored (cons_word Left) r v s.cons; got = got_stored (cons_word Left) r s.trail s.got }) is
-told-cons Client s v x is = ap (λ (r : Role). record (told s) { cons = cons_stored (cons_word Right) r v s.cons; got = got_stored (cons_word Right) r s.trail s.got }) is
+told_cons : (who : Role) (s : Side) (v x : ℕ) → s.role ≡ who → told (made s (Store (cons_word (read_ring who)) v) x) ≡ record (told s) { cons = low32 v; got = s.got ++ bytes_loaded s.trail }
+told_cons Server s v x is = ap (λ (r : Role). record (told s) { cons = cons_stored (cons_word Left) r v s.cons; got = got_stored (cons_word Left) r s.trail s.got }) is
+told_cons Client s v x is = ap (λ (r : Role). record (told s) { cons = cons_stored (cons_word Right) r v s.cons; got = got_stored (cons_word Right) r s.trail s.got }) is
 
-told-shut : (who : Role) (s : Side) (x : ℕ) → s.role ≡ who → told (made s (Store (own_live who) 0) x) ≡ record (told s) { state = Shut }
-told-shut Server s x is = ap (λ (r : Role). record (told s) { state = live_stored (own_live Server) r 0 s.state }) is
-told-shut Client s x is = ap (λ (r : Role). record (told s) { state = live_stored (own_live Client) r 0 s.state }) is
+told_shut : (who : Role) (s : Side) (x : ℕ) → s.role ≡ who → told (made s (Store (own_live who) 0) x) ≡ record (told s) { state = Shut }
+told_shut Server s x is = ap (λ (r : Role). record (told s) { state = live_stored (own_live Server) r 0 s.state }) is
+told_shut Client s x is = ap (λ (r : Role). record (told s) { state = live_stored (own_live Client) r 0 s.state }) is
 
-told-open : (s : Side) (x : ℕ) → s.role ≡ Client → told (made s (Store (own_live Client) 1) x) ≡ record (told s) { state = Open }
-told-open s x is = ap (λ (r : Role). record (told s) { state = live_stored (own_live Client) r 1 s.state }) is
+told_open : (s : Side) (x : ℕ) → s.role ≡ Client → told (made s (Store (own_live Client) 1) x) ≡ record (told s) { state = Open }
+told_open s x is = ap (λ (r : Role). record (told s) { state = live_stored (own_live Client) r 1 s.state }) is
 
-told-gone : (who : Role) (s : Side) (v x : ℕ) → s.role ≡ who → told (made s (Store (own_gone who) v) x) ≡ record (told s) { retired = true }
-told-gone Server s v x is = ap (λ (r : Role). record (told s) { retired = sets_gone_word (own_gone Server) r || s.retired }) is
-told-gone Client s v x is = ap (λ (r : Role). record (told s) { retired = sets_gone_word (own_gone Client) r || s.retired }) is
+told_gone : (who : Role) (s : Side) (v x : ℕ) → s.role ≡ who → told (made s (Store (own_gone who) v) x) ≡ record (told s) { retired = true }
+told_gone Server s v x is = ap (λ (r : Role). record (told s) { retired = sets_gone_word (own_gone Server) r || s.retired }) is
+told_gone Client s v x is = ap (λ (r : Role). record (told s) { retired = sets_gone_word (own_gone Client) r || s.retired }) is
 
 -- ---- a call on its way
 
@@ -209,14 +209,14 @@ module _ (who : Role) (channel : ChannelLists) (theirs : Told) (payload : List �
   pub calm_after : (words : List ℕ) (mine : Side) → Calm words mine → After (end_of channel who) 0 words mine
   calm_after words mine c = record { tells = c.tells; loaded = c.loaded }
 
-  with-same : (who : Role) (channel : ChannelLists) → channel ≡ with_end channel who (end_of channel who)
-  with-same Server channel = refl
-  with-same Client channel = refl
+  with_same : (who : Role) (channel : ChannelLists) → channel ≡ with_end channel who (end_of channel who)
+  with_same Server channel = refl
+  with_same Client channel = refl
 
   -- an answer that moves nothing
   pub ends_only : (answer : Answer) → count_got answer ≡ 0 → Ends (answers answer) (only channel answer)
   ends_only answer none words mine c =
-      after_answers (end_of channel who) answer (only channel answer) (with-same who channel) refl words mine
+      after_answers (end_of channel who) answer (only channel answer) (with_same who channel) refl words mine
       (subst (λ (n : ℕ). After (end_of channel who) n words mine) (sym none) (calm_after words mine c))
 
   pub ends_if : (test : Bool) (p q : Plan) (outcome : Outcome) → Ends p outcome → Ends q outcome → Ends (cond test p q) outcome
@@ -239,10 +239,10 @@ module _ (who : Role) (channel : ChannelLists) (theirs : Told) (payload : List �
   -- ---- loads and flags, which leave the lists alone
 
   nothing_loaded : (trail : List PastEvent) (op : Op) (taken : ℕ) (bytes : List ℕ) → loaded_by op taken ≡ [] → bytes_loaded trail ≡ bytes → bytes_loaded (trail ++ past op taken ∷ []) ≡ bytes
-  nothing_loaded trail op taken bytes none is = bytes_loaded-push trail op taken ∙ ap (λ (xs : List ℕ). bytes_loaded trail ++ xs) none ∙ append-nil (bytes_loaded trail) ∙ is
+  nothing_loaded trail op taken bytes none is = bytes_loaded_push trail op taken ∙ ap (λ (xs : List ℕ). bytes_loaded trail ++ xs) none ∙ append-nil (bytes_loaded trail) ∙ is
 
   nothing_stored : (trail : List PastEvent) (op : Op) (taken count : ℕ) → stored_by op ≡ 0 → count_stored trail ≡ count → count_stored (trail ++ past op taken ∷ []) ≡ count
-  nothing_stored trail op taken count none is = count_stored-push trail op taken ∙ omega (arith, none, is)
+  nothing_stored trail op taken count none is = count_stored_push trail op taken ∙ omega (arith, none, is)
 
   calm_load : (word : WordName) (words : List ℕ) (mine : Side) → Calm words mine → Calm (words_after channel.orders words mine.payload (Load word)) (made mine (Load word) (at channel.orders words word))
   calm_load word words mine c = record {
@@ -292,7 +292,7 @@ module _ (who : Role) (channel : ChannelLists) (theirs : Told) (payload : List �
   after_pending it count v words mine a =
       let flag = peer_flag channel.orders who in
       record {
-        tells = subst (λ (m : Told). Tells who channel it (set words (index_of channel.orders (peer_pending who)) v) m theirs) (sym (told-pending who mine v 0))
+        tells = subst (λ (m : Told). Tells who channel it (set words (index_of channel.orders (peer_pending who)) v) m theirs) (sym (told_pending who mine v 0))
             (tells_flags who channel it words (told mine) theirs (index_of channel.orders (peer_pending who)) v flag.0 flag.1 a.tells);
         loaded = nothing_loaded mine.trail (Store (peer_pending who) v) 0 _ refl a.loaded;
       }
@@ -316,12 +316,12 @@ module _ (who : Role) (channel : ChannelLists) (theirs : Told) (payload : List �
   pub ends_look_read : (next : ℕ → Plan) (outcome : Outcome) → Ends (next (index channel.start (end_of channel (peer who)).sent)) outcome → Ends (look_read (standing_by who channel) next) outcome
   ends_look_read next outcome on =
       ends_load (prod_word (read_ring who)) (index channel.start (end_of channel (peer who)).sent) (λ value. next (low32 value)) outcome (λ words mine c. c.tells.reading.prod_is)
-      (subst (λ (n : ℕ). Ends (next n) outcome) (sym (low32-index channel.start (end_of channel (peer who)).sent)) on)
+      (subst (λ (n : ℕ). Ends (next n) outcome) (sym (low32_index channel.start (end_of channel (peer who)).sent)) on)
 
   pub ends_look_write : (next : ℕ → Plan) (outcome : Outcome) → Ends (next (index channel.start (end_of channel (peer who)).got)) outcome → Ends (look_write (standing_by who channel) next) outcome
   ends_look_write next outcome on =
       ends_load (cons_word (written_ring who)) (index channel.start (end_of channel (peer who)).got) (λ value. next (low32 value)) outcome (λ words mine c. c.tells.written.cons_is)
-      (subst (λ (n : ℕ). Ends (next n) outcome) (sym (low32-index channel.start (end_of channel (peer who)).got)) on)
+      (subst (λ (n : ℕ). Ends (next n) outcome) (sym (low32_index channel.start (end_of channel (peer who)).got)) on)
 
   -- the peer's live byte tells whether it is shut
   shut_is : (state : EndState) → (low8 (live_word state) == 0) ≡ is_shut state
@@ -350,9 +350,9 @@ module _ (who : Role) (channel : ChannelLists) (theirs : Told) (payload : List �
   next_place : ℕ → ℕ
   next_place i = place (index channel.start (end_of channel who).sent + i) (order_of channel.orders (written_ring who))
 
-  next_place-is : (i : ℕ) → next_place i ≡ place (channel.start + length (end_of channel who).sent + i) (order_of channel.orders (written_ring who))
+  next_place_is : (i : ℕ) → next_place i ≡ place (channel.start + length (end_of channel who).sent + i) (order_of channel.orders (written_ring who))
   unfolding next_place
-  next_place-is i = place-index channel.start i (end_of channel who).sent (order_of channel.orders (written_ring who))
+  next_place_is i = place_index channel.start i (end_of channel who).sent (order_of channel.orders (written_ring who))
 
   putting_more : (i : ℕ) (words : List ℕ) (mine : Side) → length (end_of channel who).sent + i < length (end_of channel (peer who)).got + size (order_of channel.orders (written_ring who)) → Putting i words mine →
       Putting (i + 1) (words_after channel.orders words mine.payload (StoreByte (RingByte (written_ring who) (next_place i)) i)) (made mine (StoreByte (RingByte (written_ring who) (next_place i)) i) 0)
@@ -360,7 +360,7 @@ module _ (who : Role) (channel : ChannelLists) (theirs : Told) (payload : List �
   putting_more i words mine room p = record {
     tells = tells_byte who channel (end_of channel who) words (told mine) theirs (next_place i) (slice_index mine.payload i) (place_within _ _) behind p.tells;
     pays = p.pays;
-    stored = count_stored-push mine.trail op 0 ∙ ap (λ (n : ℕ). n + 1) p.stored;
+    stored = count_stored_push mine.trail op 0 ∙ ap (λ (n : ℕ). n + 1) p.stored;
     loaded = nothing_loaded mine.trail op 0 [] refl p.loaded;
     placed = λ j less. go j less (cases_lt j i);
   }
@@ -370,18 +370,18 @@ module _ (who : Role) (channel : ChannelLists) (theirs : Told) (payload : List �
 
       behind : (n : ℕ) → length (end_of channel (peer who)).got ≤ n → n < length (end_of channel who).sent → place (channel.start + n) (order_of channel.orders (written_ring who)) ≢ next_place i
       behind n low high e =
-          place_apart (channel.start + n) (channel.start + length (end_of channel who).sent + i) (order_of channel.orders (written_ring who)) (omega (arith, high)) (omega (arith, low, room)) (e ∙ next_place-is i)
+          place_apart (channel.start + n) (channel.start + length (end_of channel who).sent + i) (order_of channel.orders (written_ring who)) (omega (arith, high)) (omega (arith, low, room)) (e ∙ next_place_is i)
 
       go : (j : ℕ) → j < i + 1 → (j < i) ⊎ (i ≤ j) →
           at channel.orders (set words (index_of channel.orders (RingByte (written_ring who) (next_place i))) (slice_index mine.payload i)) (RingByte (written_ring who) (place (channel.start + length (end_of channel who).sent + j) (order_of channel.orders (written_ring who)))) ≡ slice_index payload j
       go j less (inl old) =
           get_or-set_other words (index_of channel.orders (RingByte (written_ring who) (next_place i))) (index_of channel.orders (RingByte (written_ring who) (place (channel.start + length (end_of channel who).sent + j) (order_of channel.orders (written_ring who))))) (slice_index mine.payload i) 0
           (λ e. place_apart (channel.start + length (end_of channel who).sent + j) (channel.start + length (end_of channel who).sent + i) (order_of channel.orders (written_ring who)) (omega (arith, old)) (omega (arith, room, b.written_low))
-          (omega (arith, e, index_of-byte channel.orders (written_ring who) (next_place i), index_of-byte channel.orders (written_ring who) (place (channel.start + length (end_of channel who).sent + j) (order_of channel.orders (written_ring who)))) ∙ next_place-is i))
+          (omega (arith, e, index_of_byte channel.orders (written_ring who) (next_place i), index_of_byte channel.orders (written_ring who) (place (channel.start + length (end_of channel who).sent + j) (order_of channel.orders (written_ring who)))) ∙ next_place_is i))
           ∙ p.placed j old
       go j less (inr new) =
           let same : j ≡ i = omega (arith, less, new) in
-          let there : place (channel.start + length (end_of channel who).sent + j) (order_of channel.orders (written_ring who)) ≡ next_place i = ap (λ (n : ℕ). place (channel.start + length (end_of channel who).sent + n) (order_of channel.orders (written_ring who))) same ∙ sym (next_place-is i) in
+          let there : place (channel.start + length (end_of channel who).sent + j) (order_of channel.orders (written_ring who)) ≡ next_place i = ap (λ (n : ℕ). place (channel.start + length (end_of channel who).sent + n) (order_of channel.orders (written_ring who))) same ∙ sym (next_place_is i) in
           let within : index_of channel.orders (RingByte (written_ring who) (next_place i)) < length words = subst (λ (n : ℕ). index_of channel.orders (RingByte (written_ring who) (next_place i)) < n) (sym p.tells.sized) (byte_in channel.orders (written_ring who) (next_place i) (place_within _ _)) in
           ap (λ (k : ℕ). at channel.orders (set words (index_of channel.orders (RingByte (written_ring who) (next_place i))) (slice_index mine.payload i)) (RingByte (written_ring who) k)) there
           ∙ get_or-set_same words (index_of channel.orders (RingByte (written_ring who) (next_place i))) (slice_index mine.payload i) 0 within
@@ -406,12 +406,12 @@ module _ (who : Role) (channel : ChannelLists) (theirs : Told) (payload : List �
       let it = end_of channel who in
       let v : ℕ = (index channel.start it.sent + k) % 2 ^ 32 in
       let long : length (take k payload) ≡ k = omega (arith, length-take k payload, enough) in
-      let is : v ≡ index channel.start (it.sent ++ take k payload) = index-more channel.start k it.sent (take k payload) long in
-      let own : low32 v ≡ index channel.start (it.sent ++ take k payload) = ap low32 is ∙ low32-index channel.start (it.sent ++ take k payload) in
+      let is : v ≡ index channel.start (it.sent ++ take k payload) = index_more channel.start k it.sent (take k payload) long in
+      let own : low32 v ≡ index channel.start (it.sent ++ take k payload) = ap low32 is ∙ low32_index channel.start (it.sent ++ take k payload) in
       let stands : (i : ℕ) → i < length (take k payload) → at channel.orders words (RingByte (written_ring who) (place (channel.start + length it.sent + i) (order_of channel.orders (written_ring who)))) ≡ slice_index (take k payload) i =
       λ i less. p.placed i (omega (arith, less, long)) ∙ sym (get_or-take k payload i 0 (omega (arith, less, long))) in
       let then_told : told (made mine (Store (prod_word (written_ring who)) v) 0) ≡ record (told mine) { prod = low32 v; sent = mine.sent ++ take k payload } =
-      told-prod who mine v 0 p.tells.mine_is.role_is ∙ ap (λ (n : ℕ). record (told mine) { prod = low32 v; sent = mine.sent ++ take n mine.payload }) p.stored
+      told_prod who mine v 0 p.tells.mine_is.role_is ∙ ap (λ (n : ℕ). record (told mine) { prod = low32 v; sent = mine.sent ++ take n mine.payload }) p.stored
       ∙ ap (λ (xs : List ℕ). record (told mine) { prod = low32 v; sent = mine.sent ++ take k xs }) p.pays in
       record {
         tells = subst (λ (m : Told). Tells who channel (record it { sent = it.sent ++ take k payload }) (set words (index_of channel.orders (prod_word (written_ring who))) v) m theirs) (sym then_told)
@@ -436,8 +436,8 @@ module _ (who : Role) (channel : ChannelLists) (theirs : Told) (payload : List �
   wait_place : ℕ → ℕ
   wait_place i = place (index channel.start (end_of channel who).got + i) (order_of channel.orders (read_ring who))
 
-  length-waiting : length (waiting channel who) ≡ avail channel who
-  length-waiting = length-drop (length (end_of channel who).got) (end_of channel (peer who)).sent
+  length_waiting : length (waiting channel who) ≡ avail channel who
+  length_waiting = length-drop (length (end_of channel who).got) (end_of channel (peer who)).sent
 
   -- the next byte that waits stands in its place
   waits_there : (i : ℕ) (words : List ℕ) (mine : Side) → i < avail channel who → Taking i words mine → at channel.orders words (RingByte (read_ring who) (wait_place i)) ≡ get_or (waiting channel who) i 0
@@ -445,7 +445,7 @@ module _ (who : Role) (channel : ChannelLists) (theirs : Told) (payload : List �
   waits_there i words mine more t =
       let got = (end_of channel who).got in
       let sent = (end_of channel (peer who)).sent in
-      ap (λ (k : ℕ). at channel.orders words (RingByte (read_ring who) k)) (place-index channel.start i got (order_of channel.orders (read_ring who)) ∙ ap (λ (n : ℕ). place n (order_of channel.orders (read_ring who))) (omega arith))
+      ap (λ (k : ℕ). at channel.orders words (RingByte (read_ring who) k)) (place_index channel.start i got (order_of channel.orders (read_ring who)) ∙ ap (λ (n : ℕ). place n (order_of channel.orders (read_ring who))) (omega arith))
       ∙ t.tells.reading.waits (length got + i) (omega arith) (omega (arith, more))
       ∙ sym (get_or-drop (length got) sent i 0)
 
@@ -461,8 +461,8 @@ module _ (who : Role) (channel : ChannelLists) (theirs : Told) (payload : List �
       let low : low8 value ≡ get_or (waiting channel who) i 0 = ap low8 is ∙ omega (arith, small, get_or-drop (length got) sent i 0) in
       record {
         tells = subst (λ (ws : List ℕ). Tells who channel (end_of channel who) ws (told mine) theirs) (sym (set-get_or words (index_of channel.orders word) 0)) t.tells;
-        loaded = bytes_loaded-push mine.trail (LoadByte word i) value ∙ ap (λ (xs : List ℕ). xs ++ low8 value ∷ []) t.loaded
-            ∙ ap (λ (byte : ℕ). take i (waiting channel who) ++ byte ∷ []) low ∙ sym (take_more (waiting channel who) i 0 (omega (arith, more, length-waiting)));
+        loaded = bytes_loaded_push mine.trail (LoadByte word i) value ∙ ap (λ (xs : List ℕ). xs ++ low8 value ∷ []) t.loaded
+            ∙ ap (λ (byte : ℕ). take i (waiting channel who) ++ byte ∷ []) low ∙ sym (take_more (waiting channel who) i 0 (omega (arith, more, length_waiting)));
       }
 
   take_bytes_on : (k i : ℕ) (next : Plan) (outcome : Outcome) → i + k ≤ avail channel who → ((words : List ℕ) (mine : Side) → Taking (i + k) words mine → Gives outcome (run channel.orders words mine next)) →
@@ -480,13 +480,13 @@ module _ (who : Role) (channel : ChannelLists) (theirs : Told) (payload : List �
   released k words mine room t =
       let it = end_of channel who in
       let v : ℕ = (index channel.start it.got + k) % 2 ^ 32 in
-      let long : length (take k (waiting channel who)) ≡ k = omega (arith, length-take k (waiting channel who), length-waiting, room) in
-      let is : v ≡ index channel.start (it.got ++ take k (waiting channel who)) = index-more channel.start k it.got (take k (waiting channel who)) long in
-      let own : low32 v ≡ index channel.start (it.got ++ take k (waiting channel who)) = ap low32 is ∙ low32-index channel.start (it.got ++ take k (waiting channel who)) in
+      let long : length (take k (waiting channel who)) ≡ k = omega (arith, length-take k (waiting channel who), length_waiting, room) in
+      let is : v ≡ index channel.start (it.got ++ take k (waiting channel who)) = index_more channel.start k it.got (take k (waiting channel who)) long in
+      let own : low32 v ≡ index channel.start (it.got ++ take k (waiting channel who)) = ap low32 is ∙ low32_index channel.start (it.got ++ take k (waiting channel who)) in
       let split : it.got ++ (take k (waiting channel who) ++ drop k (waiting channel who)) ≡ (end_of channel (peer who)).sent =
       ap (λ (xs : List ℕ). it.got ++ xs) (take-append-drop k (waiting channel who)) ∙ b.read_split in
       let then_told : told (made mine (Store (cons_word (read_ring who)) v) 0) ≡ record (told mine) { cons = low32 v; got = mine.got ++ take k (waiting channel who) } =
-      told-cons who mine v 0 t.tells.mine_is.role_is ∙ ap (λ (xs : List ℕ). record (told mine) { cons = low32 v; got = mine.got ++ xs }) t.loaded in
+      told_cons who mine v 0 t.tells.mine_is.role_is ∙ ap (λ (xs : List ℕ). record (told mine) { cons = low32 v; got = mine.got ++ xs }) t.loaded in
       record {
         tells = subst (λ (m : Told). Tells who channel (record it { got = it.got ++ take k (waiting channel who) }) (set words (index_of channel.orders (cons_word (read_ring who))) v) m theirs) (sym then_told)
             (tells_got who channel it words (told mine) theirs (take k (waiting channel who)) (drop k (waiting channel who)) v (low32 v) is own split t.tells);
@@ -507,7 +507,7 @@ module _ (who : Role) (channel : ChannelLists) (theirs : Told) (payload : List �
   after_shut : (it : ListEnd) (count : ℕ) (words : List ℕ) (mine : Side) → After it count words mine →
       After (record it { state = Shut }) count (words_after channel.orders words mine.payload (Store (own_live who) 0)) (made mine (Store (own_live who) 0) 0)
   after_shut it count words mine a = record {
-    tells = subst (λ (m : Told). Tells who channel (record it { state = Shut }) (set words (index_of channel.orders (own_live who)) 0) m theirs) (sym (told-shut who mine 0 a.tells.mine_is.role_is))
+    tells = subst (λ (m : Told). Tells who channel (record it { state = Shut }) (set words (index_of channel.orders (own_live who)) 0) m theirs) (sym (told_shut who mine 0 a.tells.mine_is.role_is))
         (tells_state who channel it words (told mine) theirs Shut (λ _. refl) a.tells);
     loaded = nothing_loaded mine.trail (Store (own_live who) 0) 0 _ refl a.loaded;
   }
@@ -520,7 +520,7 @@ module _ (who : Role) (channel : ChannelLists) (theirs : Told) (payload : List �
   after_gone : (it : ListEnd) (count : ℕ) (words : List ℕ) (mine : Side) → it.state ≡ Shut → After it count words mine →
       After (record it { retired = true }) count (words_after channel.orders words mine.payload (Store (own_gone who) 1)) (made mine (Store (own_gone who) 1) 0)
   after_gone it count words mine shut a = record {
-    tells = subst (λ (m : Told). Tells who channel (record it { retired = true }) (set words (index_of channel.orders (own_gone who)) 1) m theirs) (sym (told-gone who mine 1 0 a.tells.mine_is.role_is))
+    tells = subst (λ (m : Told). Tells who channel (record it { retired = true }) (set words (index_of channel.orders (own_gone who)) 1) m theirs) (sym (told_gone who mine 1 0 a.tells.mine_is.role_is))
         (tells_gone who channel it words (told mine) theirs shut a.tells);
     loaded = nothing_loaded mine.trail (Store (own_gone who) 1) 0 _ refl a.loaded;
   }
@@ -536,7 +536,7 @@ module _ (who : Role) (channel : ChannelLists) (theirs : Told) (payload : List �
       After (record (end_of channel who) { state = Open }) 0 (words_after channel.orders words mine.payload (Store CliLive 1)) (made mine (Store CliLive 1) 0)
   after_open words mine is fresh c =
       let live : CliLive ≡ own_live who = ap own_live (sym is) in
-      let open_told : told (made mine (Store CliLive 1) 0) ≡ record (told mine) { state = Open } = told-open mine 0 (c.tells.mine_is.role_is ∙ is) in
+      let open_told : told (made mine (Store CliLive 1) 0) ≡ record (told mine) { state = Open } = told_open mine 0 (c.tells.mine_is.role_is ∙ is) in
       record {
         tells = subst (λ (m : Told). Tells who channel (record (end_of channel who) { state = Open }) (set words (index_of channel.orders CliLive) 1) m theirs) (sym open_told)
             (subst (λ (w : WordName). Tells who channel (record (end_of channel who) { state = Open }) (set words (index_of channel.orders w) 1) (record (told mine) { state = Open }) theirs) (sym live)

@@ -2,7 +2,7 @@
 use Rattle.std.proofs.Common.{◌≡◌, ℕ, Bool, List, [], ◌∷◌, ◌++◌, length, take, drop, refl, subst, sym, ap, ◌∙◌}
 use Rattle.std.proofs.lemmas.List.{drop_at}
 use Rattle.list_laws.specs.Lists.{IsPrefixOf}
-use Rattle.list_laws.proofs.Prefixes.{prefix-length}
+use Rattle.list_laws.proofs.Prefixes.{prefix_length}
 use Rattle.ring_words.specs.declared.page.Role.{Role}
 use Rattle.ring_words.specs.declared.page.Role.TheVariants.{Server, Client}
 use Rattle.vchan_protocol.specs.declared.call.Answer.{Answer}
@@ -20,7 +20,7 @@ use Rattle.vchan_protocol.specs.Honest.LifeLaw.{TellsGone}
 use Rattle.vchan_protocol.specs.Lists.ListCall.{ListEnd, ChannelLists, EndCall, end_of, with_end, waiting, list_end, lists_of, list_call, list_calls}
 use Rattle.vchan_protocol.specs.Lists.ListLaw.{AllFollowLists, IsTold, FollowsLists, MayCall, MayCallAll, AreTold, called_all, count_got}
 use Rattle.vchan_protocol.proofs.Lists.ListTells.{Told, told, Tells, EndIs, EndTells}
-use Rattle.vchan_protocol.proofs.Lists.ListPieces.{run, core_by, alone-run, standing_by, Begins}
+use Rattle.vchan_protocol.proofs.Lists.ListPieces.{run, core_by, alone_run, standing_by, Begins}
 use Rattle.vchan_protocol.proofs.Lists.ListPieces.{Gives}
 use Rattle.vchan_protocol.proofs.Lists.ListCalls.{each_row}
 use Rattle.vchan_protocol.specs.History.Peer.{peer}
@@ -67,9 +67,9 @@ split_at got sent p = ap (λ (xs : List ℕ). got ++ drop (length got) xs) (sym 
 
 begins_there : (who : Role) (channel : ChannelLists) (words : List ℕ) (mine theirs : Told) → Tells who channel (end_of channel who) words mine theirs → Begins who channel
 begins_there who channel words mine theirs t = record {
-  written_low = prefix-length _ _ t.written.prefix;
+  written_low = prefix_length _ _ t.written.prefix;
   written_fits = t.written.fits;
-  read_low = prefix-length _ _ t.reading.prefix;
+  read_low = prefix_length _ _ t.reading.prefix;
   read_fits = t.reading.fits;
   read_split = split_at _ _ t.reading.prefix;
 }
@@ -83,14 +83,14 @@ standing_there who channel words s theirs t = λ i. record {
   cons = t.reading.own_cons_is i;
 }
 
-begun-by : (core : Core) (who : Role) (call : Call) (payload : List ℕ) → begun core who call payload ≡ core_by who (lists_of core) core.words (begins (side_of core who) call payload) (side_of core (peer who))
-begun-by core Server call payload = refl
-begun-by core Client call payload = refl
+begun_by : (core : Core) (who : Role) (call : Call) (payload : List ℕ) → begun core who call payload ≡ core_by who (lists_of core) core.words (begins (side_of core who) call payload) (side_of core (peer who))
+begun_by core Server call payload = refl
+begun_by core Client call payload = refl
 
 -- ---- where a call ends
 
-list_end-is : (role : Role) (channel : ChannelLists) (it : ListEnd) (s : Side) → EndIs role channel.orders it (told s) → list_end s ≡ it
-list_end-is role channel it s is = λ i. record {
+list_end_is : (role : Role) (channel : ChannelLists) (it : ListEnd) (s : Side) → EndIs role channel.orders it (told s) → list_end s ≡ it
+list_end_is role channel it s is = λ i. record {
   state = is.state_is i;
   retired = is.retired_is i;
   sent = is.sent_is i;
@@ -100,17 +100,17 @@ list_end-is role channel it s is = λ i. record {
 -- the lists of a core state are those that its page tells
 lists_there : (who : Role) (channel : ChannelLists) (it : ListEnd) (words : List ℕ) (mine theirs : Side) → Tells who channel it words (told mine) (told theirs) → lists_of (core_by who channel words mine theirs) ≡ with_end channel who it
 lists_there Server channel it words mine theirs t =
-    let own = list_end-is Server channel it mine t.mine_is in
-    let other = list_end-is Client channel channel.client theirs t.theirs_is in
+    let own = list_end_is Server channel it mine t.mine_is in
+    let other = list_end_is Client channel channel.client theirs t.theirs_is in
     λ i. record { start = channel.start; said = channel.said; orders = channel.orders; server = own i; client = other i }
 lists_there Client channel it words mine theirs t =
-    let own = list_end-is Client channel it mine t.mine_is in
-    let other = list_end-is Server channel channel.server theirs t.theirs_is in
+    let own = list_end_is Client channel it mine t.mine_is in
+    let other = list_end_is Server channel channel.server theirs t.theirs_is in
     λ i. record { start = channel.start; said = channel.said; orders = channel.orders; server = other i; client = own i }
 
-side-by : (who : Role) (channel : ChannelLists) (words : List ℕ) (mine theirs : Side) → side_of (core_by who channel words mine theirs) who ≡ mine
-side-by Server channel words mine theirs = refl
-side-by Client channel words mine theirs = refl
+side_by : (who : Role) (channel : ChannelLists) (words : List ℕ) (mine theirs : Side) → side_of (core_by who channel words mine theirs) who ≡ mine
+side_by Server channel words mine theirs = refl
+side_by Client channel words mine theirs = refl
 
 -- the page tells the new lists, to both ends
 tells_both : (who : Role) (channel : ChannelLists) (it : ListEnd) (words : List ℕ) (mine theirs : Side) → Tells who channel it words (told mine) (told theirs) → (to : Role) →
@@ -164,14 +164,14 @@ tells_both Client channel it words mine theirs t Server = record {
   said_fits = t.said_fits;
 }
 
-words-by : (who : Role) (channel : ChannelLists) (words : List ℕ) (mine theirs : Side) → (core_by who channel words mine theirs).words ≡ words
-words-by Server channel words mine theirs = refl
-words-by Client channel words mine theirs = refl
+words_by : (who : Role) (channel : ChannelLists) (words : List ℕ) (mine theirs : Side) → (core_by who channel words mine theirs).words ≡ words
+words_by Server channel words mine theirs = refl
+words_by Client channel words mine theirs = refl
 
 tells_there : (who : Role) (channel : ChannelLists) (it : ListEnd) (words : List ℕ) (mine theirs : Side) → Tells who channel it words (told mine) (told theirs) → TellsLists (core_by who channel words mine theirs)
 tells_there who channel it words mine theirs t to =
     let core = core_by who channel words mine theirs in
-    subst (λ (ws : List ℕ). Tells to (lists_of core) (end_of (lists_of core) to) ws (told (side_of core to)) (told (side_of core (peer to)))) (sym (words-by who channel words mine theirs))
+    subst (λ (ws : List ℕ). Tells to (lists_of core) (end_of (lists_of core) to) ws (told (side_of core to)) (told (side_of core (peer to)))) (sym (words_by who channel words mine theirs))
     (subst (λ (c : ChannelLists). Tells to c (end_of c to) words (told (side_of core to)) (told (side_of core (peer to)))) (sym (lists_there who channel it words mine theirs t)) (tells_both who channel it words mine theirs t to))
 
 -- ---- a whole call
@@ -184,8 +184,8 @@ module _ (core : Core) (who : Role) (call : Call) (payload : List ℕ) (t : Tell
   unfolding last
   whole =
       ap (λ (e : Standing). alone (begun core who call payload) who (plan_of e call)) (standing_there who (lists_of core) core.words (side_of core who) (told (side_of core (peer who))) (t who))
-      ∙ ap (λ (k : Core). alone k who (plan_of (standing_by who (lists_of core)) call)) (begun-by core who call payload)
-      ∙ alone-run who (lists_of core) core.words (begins (side_of core who) call payload) (side_of core (peer who)) (plan_of (standing_by who (lists_of core)) call)
+      ∙ ap (λ (k : Core). alone k who (plan_of (standing_by who (lists_of core)) call)) (begun_by core who call payload)
+      ∙ alone_run who (lists_of core) core.words (begins (side_of core who) call payload) (side_of core (peer who)) (plan_of (standing_by who (lists_of core)) call)
 
   b : Begins who (lists_of core)
   b = begins_there who (lists_of core) core.words (told (side_of core who)) (told (side_of core (peer who))) (t who)
@@ -206,7 +206,7 @@ module _ (core : Core) (who : Role) (call : Call) (payload : List ℕ) (t : Tell
   follows_lists = record {
     lists = ap lists_of now_is ∙ lists_there who (lists_of core) gives.it last.0 last.1 (side_of core (peer who)) gives.tells ∙ sym gives.is;
     answer = subst (λ (answer : Answer). IsTold (list_call (lists_of core) who call payload).1 answer) (sym answer_is) gives.answer;
-    bytes = ap (λ (k : Core). bytes_loaded (side_of k who).trail) now_is ∙ ap (λ (s : Side). bytes_loaded s.trail) (side-by who (lists_of core) last.0 last.1 (side_of core (peer who))) ∙ gives.bytes
+    bytes = ap (λ (k : Core). bytes_loaded (side_of k who).trail) now_is ∙ ap (λ (s : Side). bytes_loaded s.trail) (side_by who (lists_of core) last.0 last.1 (side_of core (peer who))) ∙ gives.bytes
         ∙ ap (λ (answer : Answer). take (count_got answer) (waiting (lists_of core) who)) (sym answer_is);
   }
 

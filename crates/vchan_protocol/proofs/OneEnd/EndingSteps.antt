@@ -39,24 +39,24 @@ or_either : (a b : Bool) (P : Type 0) → (a || b) ≡ true → (a ≡ true → 
 or_either true b P is first second = first refl
 or_either false b P is first second = second is
 
-pub saw-after : (s : Side) (op : Op) (taken : ℕ) → saw_after op taken s ≡ (s.saw || notices (standing_of s) op taken)
-saw-after s (Load word) taken = refl
-saw-after s (LoadByte word at) taken = unnoticed s.saw (not (is_shut s.state))
-saw-after s (StoreByte word at) taken = unnoticed s.saw (not (is_shut s.state))
-saw-after s (Store word value) taken = unnoticed s.saw (not (is_shut s.state))
-saw-after s (Or word bits) taken = unnoticed s.saw (not (is_shut s.state))
-saw-after s (And word bits) taken = unnoticed s.saw (not (is_shut s.state))
-saw-after s (Swap word value) taken = unnoticed s.saw (not (is_shut s.state))
-saw-after s Nothing taken = unnoticed s.saw (not (is_shut s.state))
+pub saw_after_lem : (s : Side) (op : Op) (taken : ℕ) → saw_after op taken s ≡ (s.saw || notices (standing_of s) op taken)
+saw_after_lem s (Load word) taken = refl
+saw_after_lem s (LoadByte word at) taken = unnoticed s.saw (not (is_shut s.state))
+saw_after_lem s (StoreByte word at) taken = unnoticed s.saw (not (is_shut s.state))
+saw_after_lem s (Store word value) taken = unnoticed s.saw (not (is_shut s.state))
+saw_after_lem s (Or word bits) taken = unnoticed s.saw (not (is_shut s.state))
+saw_after_lem s (And word bits) taken = unnoticed s.saw (not (is_shut s.state))
+saw_after_lem s (Swap word value) taken = unnoticed s.saw (not (is_shut s.state))
+saw_after_lem s Nothing taken = unnoticed s.saw (not (is_shut s.state))
 
 saw_stays : (s : Side) (op : Op) (taken : ℕ) → s.saw ≡ true → saw_after op taken s ≡ true
-saw_stays s op taken saw = saw-after s op taken ∙ or_left s.saw _ saw
+saw_stays s op taken saw = saw_after_lem s op taken ∙ or_left s.saw _ saw
 
-has_noticed-push : (now : Standing) (events : List PastEvent) (op : Op) (taken : ℕ) →
+has_noticed_push : (now : Standing) (events : List PastEvent) (op : Op) (taken : ℕ) →
     has_noticed now (events ++ past op taken ∷ []) ≡ (has_noticed now events || notices (standing_along now events) op taken)
-has_noticed-push now [] op taken = or-false (notices now op taken)
-has_noticed-push now (event ∷ events) op taken =
-    ap (λ (b : Bool). notices now event.op event.taken || b) (has_noticed-push (standing_after now event.op) events op taken)
+has_noticed_push now [] op taken = or-false (notices now op taken)
+has_noticed_push now (event ∷ events) op taken =
+    ap (λ (b : Bool). notices now event.op event.taken || b) (has_noticed_push (standing_after now event.op) events op taken)
     ∙ sym (or_assoc (notices now event.op event.taken) (has_noticed (standing_after now event.op) events) (notices (standing_along (standing_after now event.op) events) op taken))
 
 -- after its event an end that has noticed its peer's end in its call has seen it
@@ -64,9 +64,9 @@ saw_noticed : (s : Side) (i : InLawful s) (taken : ℕ) → EndingNoted s → ha
 saw_noticed s i taken h noticed =
     let e = begun_standing s i.begun in
     let is : has_noticed e (s.trail ++ past (op_next s) taken ∷ []) ≡ (has_noticed e s.trail || notices (standing_of s) (op_next s) taken) =
-    has_noticed-push e s.trail (op_next s) taken ∙ ap (λ (now : Standing). has_noticed e s.trail || notices now (op_next s) taken) i.lawful.stands in
+    has_noticed_push e s.trail (op_next s) taken ∙ ap (λ (now : Standing). has_noticed e s.trail || notices now (op_next s) taken) i.lawful.stands in
     or_either (has_noticed e s.trail) (notices (standing_of s) (op_next s) taken) (saw_after (op_next s) taken s ≡ true) (sym is ∙ noticed)
-    (λ before. saw_stays s (op_next s) taken (h.noticed i.begun i.is before)) (λ now. saw-after s (op_next s) taken ∙ or_right s.saw _ now)
+    (λ before. saw_stays s (op_next s) taken (h.noticed i.begun i.is before)) (λ now. saw_after_lem s (op_next s) taken ∙ or_right s.saw _ now)
 
 -- ---- what an answer ends
 

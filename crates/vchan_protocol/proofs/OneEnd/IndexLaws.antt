@@ -17,7 +17,7 @@ use Rattle.vchan_protocol.specs.History.TrailSummary.{TrailSummary, summary}
 use Rattle.vchan_protocol.specs.Honest.RingLaw.{CallLawful}
 use Rattle.vchan_protocol.specs.OneEnd.IndexLaw.{StoresIndex, IsNoIndex, KeepsIndices, TakesAsMade, StoresTakeNothing}
 use Rattle.vchan_protocol.proofs.Table.Sound.{OwesSound, OwesStored, IsFlag}
-use Rattle.vchan_protocol.proofs.History.SummaryLaws.{stored-is, loaded-is}
+use Rattle.vchan_protocol.proofs.History.SummaryLaws.{stored_is, loaded_is}
 use Rattle.vchan_protocol.proofs.Honest.EndSteps.{InLawful, in_lawful, owes_now, not_yet}
 
 -- ---- what an index store stores
@@ -41,7 +41,7 @@ index_stored _ role s e n value prod cons stored loaded owes = tt
 -- an index that is owed is the own count, moved on by the bytes of the call
 pub stores_own : (s : Side) (i : InLawful s) (word : WordName) (value : ℕ) → OwesStored word s.role (begun_standing s i.begun) (summary s.role s.trail) value → StoresIndex word s.role s value
 stores_own s i word value owes =
-    index_stored word s.role s (begun_standing s i.begun) (summary s.role s.trail) value i.lawful.prod i.lawful.cons (stored-is s.role s.trail) (ap (λ (xs : List ℕ). length xs) (loaded-is s.role s.trail)) owes
+    index_stored word s.role s (begun_standing s i.begun) (summary s.role s.trail) value i.lawful.prod i.lawful.cons (stored_is s.role s.trail) (ap (λ (xs : List ℕ). length xs) (loaded_is s.role s.trail)) owes
 
 flag_apart : (word : WordName) → IsFlag word → IsNoIndex word
 flag_apart LeftProd flag = flag
@@ -78,6 +78,6 @@ takes_as_made orders words (And word bits) = tt
 takes_as_made orders words (Swap word value) = tt
 takes_as_made orders words Nothing = tt
 
-pub takes_nothing-push : (trail : List PastEvent) (op : Op) (taken : ℕ) → StoresTakeNothing trail → TakesAsMade op taken → StoresTakeNothing (trail ++ past op taken ∷ [])
-takes_nothing-push [] op taken all made = (made, tt)
-takes_nothing-push (event ∷ events) op taken all made = (all.0, takes_nothing-push events op taken all.1 made)
+pub takes_nothing_push : (trail : List PastEvent) (op : Op) (taken : ℕ) → StoresTakeNothing trail → TakesAsMade op taken → StoresTakeNothing (trail ++ past op taken ∷ [])
+takes_nothing_push [] op taken all made = (made, tt)
+takes_nothing_push (event ∷ events) op taken all made = (all.0, takes_nothing_push events op taken all.1 made)

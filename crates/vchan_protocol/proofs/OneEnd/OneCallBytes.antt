@@ -22,8 +22,8 @@ use Rattle.vchan_protocol.specs.Table.Ends.{Standing, written_ring, read_ring, p
 use Rattle.vchan_protocol.specs.Table.Calls.{put_bytes, take_bytes, put_index, take_index, put, take as takes_out, notify, ask, write, write_open, write_looked, read, read_live, read_looked, drain_found, drain_last, drain_gone, drain_further, drain_live, drain_second, drain, connect, connect_right, close, retire, retire_shut, plan_of, send, send_open, send_looked, recv, recv_live, recv_looked, Trace}
 use Rattle.vchan_protocol.specs.History.Core.{begins, made, standing_of, stored_by, loaded_by, count_stored, bytes_loaded, sent_stored, got_stored, sent_after, got_after}
 use Rattle.vchan_protocol.proofs.Table.Counted.{stored_then, counts_within, loaded_then}
-use Rattle.vchan_protocol.proofs.History.EventLaws.{stored_most-payload}
-use Rattle.vchan_protocol.proofs.History.WholeCallLaws.{bytes_loaded-push}
+use Rattle.vchan_protocol.proofs.History.EventLaws.{stored_most_payload}
+use Rattle.vchan_protocol.proofs.History.WholeCallLaws.{bytes_loaded_push}
 use Rattle.vchan_protocol.specs.OneEnd.OneCall.{side_along, bytes_out, bytes_in, MovesAsAnswered}
 
 -- ---- what is shown and released, by the events
@@ -259,16 +259,16 @@ module _ (e : Standing) where
 
 -- ---- along the events of a call
 
-count_stored-push : (events : List PastEvent) (op : Op) (taken : ℕ) → count_stored (events ++ past op taken ∷ []) ≡ stored_then op (count_stored events)
-count_stored-push [] (StoreByte word at) taken = refl
-count_stored-push [] (Load word) taken = refl
-count_stored-push [] (LoadByte word at) taken = refl
-count_stored-push [] (Store word value) taken = refl
-count_stored-push [] (Or word bits) taken = refl
-count_stored-push [] (And word bits) taken = refl
-count_stored-push [] (Swap word value) taken = refl
-count_stored-push [] Nothing taken = refl
-count_stored-push (event ∷ events) op taken = ap (λ (n : ℕ). stored_by event.op + n) (count_stored-push events op taken) ∙ stored_on op (stored_by event.op) (count_stored events)
+count_stored_push : (events : List PastEvent) (op : Op) (taken : ℕ) → count_stored (events ++ past op taken ∷ []) ≡ stored_then op (count_stored events)
+count_stored_push [] (StoreByte word at) taken = refl
+count_stored_push [] (Load word) taken = refl
+count_stored_push [] (LoadByte word at) taken = refl
+count_stored_push [] (Store word value) taken = refl
+count_stored_push [] (Or word bits) taken = refl
+count_stored_push [] (And word bits) taken = refl
+count_stored_push [] (Swap word value) taken = refl
+count_stored_push [] Nothing taken = refl
+count_stored_push (event ∷ events) op taken = ap (λ (n : ℕ). stored_by event.op + n) (count_stored_push events op taken) ∙ stored_on op (stored_by event.op) (count_stored events)
   where
     stored_on : (op : Op) (a b : ℕ) → a + stored_then op b ≡ stored_then op (a + b)
     stored_on (StoreByte word at) a b = omega arith
@@ -280,15 +280,15 @@ count_stored-push (event ∷ events) op taken = ap (λ (n : ℕ). stored_by even
     stored_on (Swap word value) a b = refl
     stored_on Nothing a b = refl
 
-loaded-push : (xs : List ℕ) (op : Op) (taken : ℕ) → length (xs ++ loaded_by op taken) ≡ loaded_then op (length xs)
-loaded-push xs (LoadByte word at) taken = omega (arith, length-append xs (low8 taken ∷ []))
-loaded-push xs (Load word) taken = ap (λ (z : List ℕ). length z) (append-nil xs)
-loaded-push xs (Store word value) taken = ap (λ (z : List ℕ). length z) (append-nil xs)
-loaded-push xs (StoreByte word at) taken = ap (λ (z : List ℕ). length z) (append-nil xs)
-loaded-push xs (Or word bits) taken = ap (λ (z : List ℕ). length z) (append-nil xs)
-loaded-push xs (And word bits) taken = ap (λ (z : List ℕ). length z) (append-nil xs)
-loaded-push xs (Swap word value) taken = ap (λ (z : List ℕ). length z) (append-nil xs)
-loaded-push xs Nothing taken = ap (λ (z : List ℕ). length z) (append-nil xs)
+loaded_push : (xs : List ℕ) (op : Op) (taken : ℕ) → length (xs ++ loaded_by op taken) ≡ loaded_then op (length xs)
+loaded_push xs (LoadByte word at) taken = omega (arith, length-append xs (low8 taken ∷ []))
+loaded_push xs (Load word) taken = ap (λ (z : List ℕ). length z) (append-nil xs)
+loaded_push xs (Store word value) taken = ap (λ (z : List ℕ). length z) (append-nil xs)
+loaded_push xs (StoreByte word at) taken = ap (λ (z : List ℕ). length z) (append-nil xs)
+loaded_push xs (Or word bits) taken = ap (λ (z : List ℕ). length z) (append-nil xs)
+loaded_push xs (And word bits) taken = ap (λ (z : List ℕ). length z) (append-nil xs)
+loaded_push xs (Swap word value) taken = ap (λ (z : List ℕ). length z) (append-nil xs)
+loaded_push xs Nothing taken = ap (λ (z : List ℕ). length z) (append-nil xs)
 
 -- what an end has shown and released on the way of its call
 record Shows (sent got : List ℕ) (s o l g : ℕ) (side : Side) : Type 0 where
@@ -363,12 +363,12 @@ module _ (sent got : List ℕ) (s o l g : ℕ) (side : Side) (taken : ℕ) (h : 
   shows_on op once =
       let few : released_then side.role op l g ≤ length (bytes_loaded side.trail) = omega (arith, within_on op, h.loaded) in
       record {
-        stored = count_stored-push side.trail op taken ∙ ap (λ (n : ℕ). stored_then op n) h.stored;
-        loaded = ap (λ (z : List ℕ). length z) (bytes_loaded-push side.trail op taken) ∙ loaded-push (bytes_loaded side.trail) op taken ∙ ap (λ (n : ℕ). loaded_then op n) h.loaded;
+        stored = count_stored_push side.trail op taken ∙ ap (λ (n : ℕ). stored_then op n) h.stored;
+        loaded = ap (λ (z : List ℕ). length z) (bytes_loaded_push side.trail op taken) ∙ loaded_push (bytes_loaded side.trail) op taken ∙ ap (λ (n : ℕ). loaded_then op n) h.loaded;
         within = omega (arith, within_on op, more_loaded op);
         sent_is = sent_step op once;
         got_is = got_step op once ∙ ap (λ (z : List ℕ). got ++ z)
-            (sym (take-append-le (released_then side.role op l g) (bytes_loaded side.trail) (loaded_by op taken) few) ∙ ap (λ (z : List ℕ). take (released_then side.role op l g) z) (sym (bytes_loaded-push side.trail op taken)));
+            (sym (take-append-le (released_then side.role op l g) (bytes_loaded side.trail) (loaded_by op taken) few) ∙ ap (λ (z : List ℕ). take (released_then side.role op l g) z) (sym (bytes_loaded_push side.trail op taken)));
       }
 
 -- what holds of an end after the last event of its call
@@ -399,29 +399,29 @@ tells_along sent got s o l g side (does op next) (event ∷ events) answer h m l
     tells_along sent got (stored_then event.op s) (shown_then side.role event.op s o) (loaded_then event.op l) (released_then side.role event.op l g) (made side event.op event.taken) (next event.taken) events answer
     (shows_on sent got s o l g side event.taken h event.op first.0) (first.1 event.taken) led.1
 
-along-trail : (s : Side) (events : List PastEvent) → (side_along s events).trail ≡ s.trail ++ events
-along-trail s [] = sym (append-nil s.trail)
-along-trail s (event ∷ events) = along-trail (made s event.op event.taken) events ∙ append_assoc s.trail (past event.op event.taken ∷ []) events
+along_trail : (s : Side) (events : List PastEvent) → (side_along s events).trail ≡ s.trail ++ events
+along_trail s [] = sym (append-nil s.trail)
+along_trail s (event ∷ events) = along_trail (made s event.op event.taken) events ∙ append_assoc s.trail (past event.op event.taken ∷ []) events
 
-pub along-payload : (s : Side) (events : List PastEvent) → (side_along s events).payload ≡ s.payload
-along-payload s [] = refl
-along-payload s (event ∷ events) = along-payload (made s event.op event.taken) events
+pub along_payload : (s : Side) (events : List PastEvent) → (side_along s events).payload ≡ s.payload
+along_payload s [] = refl
+along_payload s (event ∷ events) = along_payload (made s event.op event.taken) events
 
 pub answers_tell : (was : Side) (call : Call) (payload : List ℕ) (events : List PastEvent) (answer : Answer) → Trace (standing_of was) call events answer → MovesAsAnswered was call payload events answer
 answers_tell was call payload events answer trace =
     let began = begins was call payload in
     let t = tells_along was.sent was.got 0 0 0 0 began (plan_of (standing_of was) call) events answer
     (record { stored = refl; loaded = refl; within = omega arith; sent_is = sym (append-nil was.sent); got_is = sym (append-nil was.got) }) (moves_call (standing_of was) call) trace in
-    let all = along-trail began events in
+    let all = along_trail began events in
     let e = standing_of was in
     let most = counts_within e call events (answers answer) trace in
     let stored : count_stored events ≡ bytes_out answer = sym (ap (λ (z : List PastEvent). count_stored z) all) ∙ t.stored in
     let loaded : length (bytes_loaded events) ≡ bytes_in answer = sym (ap (λ (z : List PastEvent). length (bytes_loaded z)) all) ∙ t.loaded in
     record {
-      sent = t.sent_is ∙ ap (λ (z : List ℕ). was.sent ++ take (bytes_out answer) z) (along-payload began events);
+      sent = t.sent_is ∙ ap (λ (z : List ℕ). was.sent ++ take (bytes_out answer) z) (along_payload began events);
       got = t.got_is ∙ ap (λ (z : List PastEvent). was.got ++ bytes_loaded z) all;
       stored = stored;
       loaded = loaded;
-      pays = omega (arith, stored, most.0, stored_most-payload e call);
+      pays = omega (arith, stored, most.0, stored_most_payload e call);
       takes = omega (arith, loaded, most.1);
     }

@@ -16,30 +16,30 @@ use Rattle.vchan_protocol.specs.Table.Calls.{plan_of, stored_most, loaded_most, 
 use Rattle.vchan_protocol.specs.Table.Apply.{filled}
 use Rattle.vchan_protocol.specs.History.Core.{begins, begun_standing, standing_of, standing_along, plan_left, op_next, made, settled, side_after, answered, answer_in, loaded_by, count_stored, bytes_loaded, drains, first_ended, ending, misleads}
 use Rattle.vchan_protocol.specs.OneEnd.OneCall.{side_along, side_called, bytes_out, bytes_in, landed, OnWay, IsOver, IsThen, WayGoesOn, OverTells}
-use Rattle.vchan_protocol.proofs.Table.PlanLaws.{Leads-more, rest_after-Leads}
-use Rattle.vchan_protocol.proofs.Table.Counted.{Counted, Owes, counted_call, Counted-Leads}
-use Rattle.vchan_protocol.proofs.Table.Bounds.{ends_call, length-Leads-more}
+use Rattle.vchan_protocol.proofs.Table.PlanLaws.{Leads_more, rest_after_Leads}
+use Rattle.vchan_protocol.proofs.Table.Counted.{Counted, Owes, counted_call, Counted_Leads}
+use Rattle.vchan_protocol.proofs.Table.Bounds.{ends_call, length_Leads_more}
 use Rattle.vchan_protocol.proofs.History.EventLaws.{owes_next}
-use Rattle.vchan_protocol.proofs.History.WholeCallLaws.{bytes_loaded-push, set_next}
+use Rattle.vchan_protocol.proofs.History.WholeCallLaws.{bytes_loaded_push, set_next}
 use Rattle.vchan_protocol.proofs.OneEnd.OneCallBytes.{answers_tell}
 
 -- ---- an end along its own events
 
-side_along-push : (s : Side) (events : List PastEvent) (op : Op) (taken : ℕ) → side_along s (events ++ past op taken ∷ []) ≡ made (side_along s events) op taken
-side_along-push s [] op taken = refl
-side_along-push s (event ∷ events) op taken = side_along-push (made s event.op event.taken) events op taken
+side_along_push : (s : Side) (events : List PastEvent) (op : Op) (taken : ℕ) → side_along s (events ++ past op taken ∷ []) ≡ made (side_along s events) op taken
+side_along_push s [] op taken = refl
+side_along_push s (event ∷ events) op taken = side_along_push (made s event.op event.taken) events op taken
 
-along-call : (s : Side) (events : List PastEvent) → (side_along s events).call ≡ s.call
-along-call s [] = refl
-along-call s (event ∷ events) = along-call (made s event.op event.taken) events
+along_call : (s : Side) (events : List PastEvent) → (side_along s events).call ≡ s.call
+along_call s [] = refl
+along_call s (event ∷ events) = along_call (made s event.op event.taken) events
 
-pub along-role : (s : Side) (events : List PastEvent) → (side_along s events).role ≡ s.role
-along-role s [] = refl
-along-role s (event ∷ events) = along-role (made s event.op event.taken) events
+pub along_role : (s : Side) (events : List PastEvent) → (side_along s events).role ≡ s.role
+along_role s [] = refl
+along_role s (event ∷ events) = along_role (made s event.op event.taken) events
 
-along-orders : (s : Side) (events : List PastEvent) → (side_along s events).orders ≡ s.orders
-along-orders s [] = refl
-along-orders s (event ∷ events) = along-orders (made s event.op event.taken) events
+along_orders : (s : Side) (events : List PastEvent) → (side_along s events).orders ≡ s.orders
+along_orders s [] = refl
+along_orders s (event ∷ events) = along_orders (made s event.op event.taken) events
 
 -- ---- on the way of a call
 
@@ -53,12 +53,12 @@ way_begins was call payload start = record { is = refl; led = refl; fills = refl
 left_is : (was : Side) (call : Call) (payload : List ℕ) (s : Side) (plan : Plan) → s ≡ side_along (begins was call payload) s.trail → Leads (plan_of (standing_of was) call) s.trail plan → plan_left s ≡ plan
 left_is was call payload s plan is led =
     let began = begins was call payload in
-    let calls : s.call ≡ Some (now_begun was call) = ap (λ (z : Side). z.call) is ∙ along-call began s.trail in
-    let role : s.role ≡ was.role = ap (λ (z : Side). z.role) is ∙ along-role began s.trail in
-    let orders : s.orders ≡ was.orders = ap (λ (z : Side). z.orders) is ∙ along-orders began s.trail in
+    let calls : s.call ≡ Some (now_begun was call) = ap (λ (z : Side). z.call) is ∙ along_call began s.trail in
+    let role : s.role ≡ was.role = ap (λ (z : Side). z.role) is ∙ along_role began s.trail in
+    let orders : s.orders ≡ was.orders = ap (λ (z : Side). z.orders) is ∙ along_orders began s.trail in
     let stood : begun_standing s (now_begun was call) ≡ standing_of was = λ i. record { role = role i; orders = orders i; state = was.state; prod = was.prod; cons = was.cons } in
     subst (λ (c : Option Begun). elim c [ None ↦ answers Done | Some b ↦ rest_after (plan_of (begun_standing s b) b.call) s.trail ] ≡ plan) (sym calls)
-    (ap (λ (e : Standing). rest_after (plan_of e call) s.trail) stood ∙ rest_after-Leads (plan_of (standing_of was) call) s.trail plan led)
+    (ap (λ (e : Standing). rest_after (plan_of e call) s.trail) stood ∙ rest_after_Leads (plan_of (standing_of was) call) s.trail plan led)
 
 lands_on : (e now : Standing) (out into s : ℕ) (bytes start : List ℕ) (op : Op) (taken : ℕ) → Owes e out into now s (length bytes) op → into ≤ length start → landed op taken (filled start bytes) ≡ filled start (bytes ++ loaded_by op taken)
 lands_on e now out into s bytes start (LoadByte word at) taken owes long =
@@ -85,17 +85,17 @@ module _ (was : Side) (call : Call) (payload start : List ℕ) (s : Side) (buffe
   trail = s.trail ++ past (op_next s) taken ∷ []
 
   then_led : Leads (plan_of (standing_of was) call) (s.trail ++ past (op_next s) taken ∷ []) (after (plan_left s) taken)
-  then_led = Leads-more (plan_of (standing_of was) call) s.trail (plan_left s) taken more w.led
+  then_led = Leads_more (plan_of (standing_of was) call) s.trail (plan_left s) taken more w.led
 
   then_made : made s (op_next s) taken ≡ side_along (begins was call payload) (s.trail ++ past (op_next s) taken ∷ [])
-  then_made = ap (λ (z : Side). made z (op_next s) taken) w.is ∙ sym (side_along-push (begins was call payload) s.trail (op_next s) taken)
+  then_made = ap (λ (z : Side). made z (op_next s) taken) w.is ∙ sym (side_along_push (begins was call payload) s.trail (op_next s) taken)
 
   owed : Owes (standing_of was) (stored_most (standing_of was) call) (loaded_most (standing_of was) call) (standing_along (standing_of was) s.trail) (0 + count_stored s.trail) (length (bytes_loaded s.trail)) (op_next s)
   owed =
       let e = standing_of was in
       let out = stored_most e call in
       let into = loaded_most e call in
-      let there = Counted-Leads e out into e 0 0 (plan_of e call) s.trail (plan_left s) (counted_call e call) w.led in
+      let there = Counted_Leads e out into e 0 0 (plan_of e call) s.trail (plan_left s) (counted_call e call) w.led in
       let same : 0 + length (bytes_loaded s.trail) ≡ length (bytes_loaded s.trail) = omega arith in
       owes_next e out into (standing_along e s.trail) (0 + count_stored s.trail) (length (bytes_loaded s.trail)) (plan_left s)
       (subst (λ (n : ℕ). Counted e out into (standing_along e s.trail) (0 + count_stored s.trail) n (plan_left s)) same there) more
@@ -104,7 +104,7 @@ module _ (was : Side) (call : Call) (payload start : List ℕ) (s : Side) (buffe
   then_fills =
       ap (λ (b : List ℕ). landed (op_next s) taken b) w.fills
       ∙ lands_on (standing_of was) _ _ (loaded_most (standing_of was) call) _ (bytes_loaded s.trail) start (op_next s) taken owed long
-      ∙ ap (λ (xs : List ℕ). filled start xs) (sym (bytes_loaded-push s.trail (op_next s) taken))
+      ∙ ap (λ (xs : List ℕ). filled start xs) (sym (bytes_loaded_push s.trail (op_next s) taken))
 
   settles_as : (plan : Plan) (result : Option Answer) → result ≡ answer_in plan → SettlesAs (made s (op_next s) taken) plan result
   settles_as (answers answer) result is = subst (λ (r : Option Answer). SettlesAs (made s (op_next s) taken) (answers answer) r) (sym is) (refl, refl)
@@ -134,7 +134,7 @@ pub way_goes_on : (was : Side) (call : Call) (payload start : List ℕ) (s : Sid
     WayGoesOn was call payload start s buffer
 way_goes_on was call payload start s buffer long w more =
     let e = standing_of was in
-    let few : length s.trail < most_events e call = length-Leads-more (plan_of e call) s.trail (plan_left s) (most_events e call) (ends_call e call) w.led more in
+    let few : length s.trail < most_events e call = length_Leads_more (plan_of e call) s.trail (plan_left s) (most_events e call) (ends_call e call) w.led more in
     record {
       few = omega (arith, few);
       next = λ taken. way_on was call payload start s buffer taken long w more (answer_in (after (plan_left s) taken)) (side_after s taken) (landed (op_next s) taken buffer) refl refl refl;
@@ -142,15 +142,15 @@ way_goes_on was call payload start s buffer long w more =
 
 -- ---- what an event leaves
 
-pub landed-length : (op : Op) (taken : ℕ) (buffer : List ℕ) → length (landed op taken buffer) ≡ length buffer
-landed-length (LoadByte word at) taken buffer = length-set buffer at (taken % 256)
-landed-length (Load word) taken buffer = refl
-landed-length (Store word value) taken buffer = refl
-landed-length (StoreByte word at) taken buffer = refl
-landed-length (Or word bits) taken buffer = refl
-landed-length (And word bits) taken buffer = refl
-landed-length (Swap word value) taken buffer = refl
-landed-length Nothing taken buffer = refl
+pub landed_length : (op : Op) (taken : ℕ) (buffer : List ℕ) → length (landed op taken buffer) ≡ length buffer
+landed_length (LoadByte word at) taken buffer = length-set buffer at (taken % 256)
+landed_length (Load word) taken buffer = refl
+landed_length (Store word value) taken buffer = refl
+landed_length (StoreByte word at) taken buffer = refl
+landed_length (Or word bits) taken buffer = refl
+landed_length (And word bits) taken buffer = refl
+landed_length (Swap word value) taken buffer = refl
+landed_length Nothing taken buffer = refl
 
 -- ---- what a call that is over tells
 
@@ -164,30 +164,30 @@ over_got was call payload start s buffer answer o =
     ap (λ (z : Side). z.got) o.is ∙ t.got ∙ ap (λ (xs : List ℕ). was.got ++ xs)
     (sym (take-append-le (length bytes) bytes (drop (length bytes) start) (omega arith) ∙ take_all (length bytes) bytes (omega arith)) ∙ ap (λ (xs : List ℕ). take (length bytes) xs) (sym o.fills) ∙ ap (λ (n : ℕ). take n buffer) t.loaded)
 
-along-drained : (s : Side) (events : List PastEvent) → (side_along s events).drained ≡ s.drained
-along-drained s [] = refl
-along-drained s (event ∷ events) = along-drained (made s event.op event.taken) events
+along_drained : (s : Side) (events : List PastEvent) → (side_along s events).drained ≡ s.drained
+along_drained s [] = refl
+along_drained s (event ∷ events) = along_drained (made s event.op event.taken) events
 
-along-ended : (s : Side) (events : List PastEvent) → (side_along s events).ended ≡ s.ended
-along-ended s [] = refl
-along-ended s (event ∷ events) = along-ended (made s event.op event.taken) events
+along_ended : (s : Side) (events : List PastEvent) → (side_along s events).ended ≡ s.ended
+along_ended s [] = refl
+along_ended s (event ∷ events) = along_ended (made s event.op event.taken) events
 
-along-misled : (s : Side) (events : List PastEvent) → (side_along s events).misled ≡ s.misled
-along-misled s [] = refl
-along-misled s (event ∷ events) = along-misled (made s event.op event.taken) events
+along_misled : (s : Side) (events : List PastEvent) → (side_along s events).misled ≡ s.misled
+along_misled s [] = refl
+along_misled s (event ∷ events) = along_misled (made s event.op event.taken) events
 
 pub over_drained : (was : Side) (call : Call) (payload start : List ℕ) (s : Side) (buffer : List ℕ) (answer : Answer) → IsOver was call payload start s buffer answer → s.drained ≡ (was.drained || drains answer)
-over_drained was call payload start s buffer answer o = ap (λ (z : Side). z.drained) o.is ∙ ap (λ (b : Bool). b || drains answer) (along-drained (begins was call payload) s.trail)
+over_drained was call payload start s buffer answer o = ap (λ (z : Side). z.drained) o.is ∙ ap (λ (b : Bool). b || drains answer) (along_drained (begins was call payload) s.trail)
 
 pub over_ended : (was : Side) (call : Call) (payload start : List ℕ) (s : Side) (buffer : List ℕ) (answer : Answer) → IsOver was call payload start s buffer answer → s.ended ≡ first_ended was.ended (ending answer)
-over_ended was call payload start s buffer answer o = ap (λ (z : Side). z.ended) o.is ∙ ap (λ (e : Option EndedBy). first_ended e (ending answer)) (along-ended (begins was call payload) s.trail)
+over_ended was call payload start s buffer answer o = ap (λ (z : Side). z.ended) o.is ∙ ap (λ (e : Option EndedBy). first_ended e (ending answer)) (along_ended (begins was call payload) s.trail)
 
 pub over_misled : (was : Side) (call : Call) (payload start : List ℕ) (s : Side) (buffer : List ℕ) (answer : Answer) → IsOver was call payload start s buffer answer → s.misled ≡ (was.misled || misleads answer)
-over_misled was call payload start s buffer answer o = ap (λ (z : Side). z.misled) o.is ∙ ap (λ (b : Bool). b || misleads answer) (along-misled (begins was call payload) s.trail)
+over_misled was call payload start s buffer answer o = ap (λ (z : Side). z.misled) o.is ∙ ap (λ (b : Bool). b || misleads answer) (along_misled (begins was call payload) s.trail)
 
-along-turned : (s : Side) (events : List PastEvent) → (side_along s events).turned ≡ s.turned
-along-turned s [] = refl
-along-turned s (event ∷ events) = along-turned (made s event.op event.taken) events
+along_turned : (s : Side) (events : List PastEvent) → (side_along s events).turned ≡ s.turned
+along_turned s [] = refl
+along_turned s (event ∷ events) = along_turned (made s event.op event.taken) events
 
 pub over_tells : (was : Side) (call : Call) (payload start : List ℕ) (s : Side) (buffer : List ℕ) (answer : Answer) → IsOver was call payload start s buffer answer → OverTells was payload s buffer answer
 over_tells was call payload start s buffer answer o = record {
@@ -196,6 +196,6 @@ over_tells was call payload start s buffer answer o = record {
   drained = over_drained was call payload start s buffer answer o;
   ended = over_ended was call payload start s buffer answer o;
   misled = over_misled was call payload start s buffer answer o;
-  turned = ap (λ (z : Side). z.turned) o.is ∙ along-turned (begins was call payload) s.trail;
+  turned = ap (λ (z : Side). z.turned) o.is ∙ along_turned (begins was call payload) s.trail;
   idle = ap (λ (z : Side). z.call) o.is;
 }

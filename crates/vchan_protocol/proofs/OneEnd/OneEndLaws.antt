@@ -26,10 +26,10 @@ use Rattle.vchan_protocol.specs.Always.Invariant.{Invariant, MayCome, opens, beg
 use Rattle.vchan_protocol.specs.Hostile.Turned.{strayed}
 use Rattle.vchan_protocol.specs.Hostile.TurnedLaw.{KeepsCounts, turned_core}
 use Rattle.vchan_protocol.specs.OneEnd.OneEndLaw.{OwnLawful, HasCalled}
-use Rattle.vchan_protocol.proofs.Table.PlanLaws.{Leads-more}
-use Rattle.vchan_protocol.proofs.History.EventLaws.{settled-turned, standing_of-made, standing_along-push}
+use Rattle.vchan_protocol.proofs.Table.PlanLaws.{Leads_more}
+use Rattle.vchan_protocol.proofs.History.EventLaws.{settled_turned, standing_of_made, standing_along_push}
 use Rattle.vchan_protocol.proofs.Honest.EndSteps.{InLawful, in_lawful, call_begins}
-use Rattle.vchan_protocol.proofs.Hostile.TurnedSteps.{counts_go_on, turned-turned_side}
+use Rattle.vchan_protocol.proofs.Hostile.TurnedSteps.{counts_go_on, turned_turned_side}
 use Rattle.vchan_protocol.proofs.OneEnd.EndingSteps.{step_keeps_notes}
 use Rattle.vchan_protocol.proofs.OneEnd.SideSteps.{notes_kept}
 use Rattle.vchan_protocol.proofs.Always.InvariantSteps.{each_has_invariant}
@@ -161,12 +161,12 @@ owed_call e PeerGone allowed = owed_each e.role e.state _ (each_event e (LeavesS
 
 -- ---- along a trail
 
-owed-Leads : (e : Standing) (plan : Plan) (events : List PastEvent) (rest : Plan) → StateOwed e.role e.state plan → Leads plan events rest → StateOwed (standing_along e events).role (standing_along e events).state rest
+owed_Leads : (e : Standing) (plan : Plan) (events : List PastEvent) (rest : Plan) → StateOwed e.role e.state plan → Leads plan events rest → StateOwed (standing_along e events).role (standing_along e events).state rest
 unfolding StateOwed standing_after
-owed-Leads e plan [] rest owed led = subst (λ (p : Plan). StateOwed e.role e.state p) led owed
-owed-Leads e (answers answer) (event ∷ events) rest owed led = absurd led
-owed-Leads e (does op next) (event ∷ events) rest owed led =
-    owed-Leads (standing_after e event.op) (next event.taken) events rest (subst (λ (x : Op). StateOwed e.role (state_after x e.role e.state) (next event.taken)) (sym led.0) (owed.1 event.taken)) led.1
+owed_Leads e plan [] rest owed led = subst (λ (p : Plan). StateOwed e.role e.state p) led owed
+owed_Leads e (answers answer) (event ∷ events) rest owed led = absurd led
+owed_Leads e (does op next) (event ∷ events) rest owed led =
+    owed_Leads (standing_after e event.op) (next event.taken) events rest (subst (λ (x : Op). StateOwed e.role (state_after x e.role e.state) (next event.taken)) (sym led.0) (owed.1 event.taken)) led.1
 
 owed_first : (role : Role) (state : EndState) (plan : Plan) → StateOwed role state plan → GoesOn plan → OwesState role state (next_op plan)
 unfolding StateOwed
@@ -178,7 +178,7 @@ owed_now : (s : Side) (i : InLawful s) → GoesOn (plan_left s) → OwesState s.
 owed_now s i more =
     let e = begun_standing s i.begun in
     owed_first s.role s.state (plan_left s)
-    (subst (λ (x : Standing). StateOwed x.role x.state (plan_left s)) i.lawful.stands (owed-Leads e (plan_of e i.begun.call) s.trail (plan_left s) (owed_call e i.begun.call i.lawful.allowed) i.led)) more
+    (subst (λ (x : Standing). StateOwed x.role x.state (plan_left s)) i.lawful.stands (owed_Leads e (plan_of e i.begun.call) s.trail (plan_left s) (owed_call e i.begun.call i.lawful.allowed) i.led)) more
 
 -- ---- the laws
 
@@ -222,9 +222,9 @@ module _ (start : ℕ) (s : Side) (taken : ℕ) (h : OwnLawful start s) (more : 
     allowed = inside.lawful.allowed;
     pays = inside.lawful.pays;
     trace = subst (λ (p : Plan). Leads (plan_of (begun_standing s inside.begun) inside.begun.call) (s.trail ++ past (op_next s) taken ∷ []) p) is
-        (Leads-more (plan_of (begun_standing s inside.begun) inside.begun.call) s.trail (plan_left s) taken more inside.led);
-    stands = standing_along-push (begun_standing s inside.begun) s.trail (past (op_next s) taken) ∙ ap (λ (n : Standing). standing_after n (op_next s)) inside.lawful.stands
-        ∙ sym (standing_of-made s (op_next s) taken);
+        (Leads_more (plan_of (begun_standing s inside.begun) inside.begun.call) s.trail (plan_left s) taken more inside.led);
+    stands = standing_along_push (begun_standing s inside.begun) s.trail (past (op_next s) taken) ∙ ap (λ (n : Standing). standing_after n (op_next s)) inside.lawful.stands
+        ∙ sym (standing_of_made s (op_next s) taken);
   }
 
   called_then : (plan : Plan) → after (plan_left s) taken ≡ plan → (settled (made s (op_next s) taken) plan).call ≡ None →
@@ -248,7 +248,7 @@ module _ (start : ℕ) (s : Side) (taken : ℕ) (h : OwnLawful start s) (more : 
 
   pub own_stepped : OwnLawful start (side_after s taken)
   own_stepped = record {
-    honest = settled-turned (made s (op_next s) taken) (after (plan_left s) taken) ∙ h.honest;
+    honest = settled_turned (made s (op_next s) taken) (after (plan_left s) taken) ∙ h.honest;
     prod = counts.prod;
     cons = counts.cons;
     call = counts.call;
@@ -281,14 +281,14 @@ event_own core Server fair more each Client honest = each Client honest
 event_own core Client fair more each Server honest = each Server honest
 
 turning_own : (core : Core) (one : Role) → EachOwn core → EachOwn (turned_core core one)
-turning_own core Server each Server honest = absurd (false≢true (sym honest ∙ turned-turned_side core.server (length core.client.got)))
-turning_own core Client each Client honest = absurd (false≢true (sym honest ∙ turned-turned_side core.client (length core.server.got)))
+turning_own core Server each Server honest = absurd (false≢true (sym honest ∙ turned_turned_side core.server (length core.client.got)))
+turning_own core Client each Client honest = absurd (false≢true (sym honest ∙ turned_turned_side core.client (length core.server.got)))
 turning_own core Server each Client honest = each Client honest
 turning_own core Client each Server honest = each Server honest
 
 strayed_own : (core : Core) (one : Role) (op : Op) → EachOwn core → EachOwn (strayed core one op)
-strayed_own core Server op each Server honest = absurd (false≢true (sym honest ∙ turned-turned_side core.server (length core.client.got)))
-strayed_own core Client op each Client honest = absurd (false≢true (sym honest ∙ turned-turned_side core.client (length core.server.got)))
+strayed_own core Server op each Server honest = absurd (false≢true (sym honest ∙ turned_turned_side core.server (length core.client.got)))
+strayed_own core Client op each Client honest = absurd (false≢true (sym honest ∙ turned_turned_side core.client (length core.server.got)))
 strayed_own core Server op each Client honest = each Client honest
 strayed_own core Client op each Server honest = each Server honest
 

@@ -15,7 +15,7 @@ use Rattle.vchan_protocol.specs.Always.Invariant.{Invariant}
 use Rattle.vchan_protocol.specs.Hostile.TurnedLaws.{TurnStands}
 use Rattle.vchan_protocol.specs.OneEnd.OneEnd.{Setup, between, setup_of, StepsAreOwn, Enters, StepsKeep}
 use Rattle.vchan_protocol.proofs.Always.InvariantSteps.{invariant_begun, invariant_event, invariant_turned_core, invariant_strayed}
-use Rattle.vchan_protocol.proofs.Hostile.TurnedSteps.{turned_side-honest, turned_side-given, turned-turned_side}
+use Rattle.vchan_protocol.proofs.Hostile.TurnedSteps.{turned_side_honest, turned_side_given, turned_turned_side}
 use Rattle.vchan_protocol.specs.History.Peer.{peer}
 
 -- ---- an end and its peer
@@ -93,13 +93,13 @@ event_kept setup words who mine theirs honest more k =
 
 pub turn_kept : (setup : Setup) (words : List ℕ) (who : Role) (mine theirs : Side) → mine.turned ≡ false → Invariant (between setup words who mine theirs) → Invariant (between setup words who (turns mine (length theirs.got)) theirs)
 turn_kept setup words who mine theirs honest k =
-    subst (λ (z : Side). Invariant (between setup words who z theirs)) (turned_side-honest mine (length theirs.got) honest)
+    subst (λ (z : Side). Invariant (between setup words who z theirs)) (turned_side_honest mine (length theirs.got) honest)
     (subst Invariant (turning_is setup words who mine theirs) (invariant_turned_core (between setup words who mine theirs) who k))
 
 pub stray_kept : (setup : Setup) (words : List ℕ) (who : Role) (mine theirs : Side) (op : Op) → mine.turned ≡ true → Invariant (between setup words who mine theirs) →
     Invariant (between setup (words_after setup.orders words [] op) who (strays mine op (value_taken setup.orders words op)) theirs)
 stray_kept setup words who mine theirs op given k =
-    subst (λ (z : Side). Invariant (between setup (words_after setup.orders words [] op) who (strays z op (value_taken setup.orders words op)) theirs)) (turned_side-given mine (length theirs.got) given)
+    subst (λ (z : Side). Invariant (between setup (words_after setup.orders words [] op) who (strays z op (value_taken setup.orders words op)) theirs)) (turned_side_given mine (length theirs.got) given)
     (subst Invariant (strayed_is setup words who mine theirs op) (invariant_strayed (between setup words who mine theirs) who op k))
 
 pub steps_keep : (setup : Setup) (words : List ℕ) (who : Role) (mine theirs : Side) → Invariant (between setup words who mine theirs) → StepsKeep setup words who mine theirs
@@ -113,15 +113,15 @@ steps_keep setup words who mine theirs k = record {
 
 -- ---- turning
 
-pub turned_side-sent : (s : Side) (consumed : ℕ) → (turned_side s consumed).sent ≡ s.sent
-turned_side-sent s consumed = go s.turned
+pub turned_side_sent : (s : Side) (consumed : ℕ) → (turned_side s consumed).sent ≡ s.sent
+turned_side_sent s consumed = go s.turned
   where
     go : (b : Bool) → (cond b s (turns s consumed)).sent ≡ s.sent
     go true = refl
     go false = refl
 
-pub turned_side-got : (s : Side) (consumed : ℕ) → (turned_side s consumed).got ≡ s.got
-turned_side-got s consumed = go s.turned
+pub turned_side_got : (s : Side) (consumed : ℕ) → (turned_side s consumed).got ≡ s.got
+turned_side_got s consumed = go s.turned
   where
     go : (b : Bool) → (cond b s (turns s consumed)).got ≡ s.got
     go true = refl
@@ -139,12 +139,12 @@ record Stands (s : Side) (consumed : ℕ) : Type 0 where
 
 stands : (s : Side) (consumed : ℕ) → Stands s consumed
 stands s consumed = record {
-  turned = turned-turned_side s consumed;
-  sent = turned_side-sent s consumed;
-  got = turned_side-got s consumed;
-  consumed_is = λ honest. ap (λ (z : Side). z.consumed) (turned_side-honest s consumed honest);
-  idle = λ honest. ap (λ (z : Side). z.call) (turned_side-honest s consumed honest);
-  again = λ given. turned_side-given s consumed given;
+  turned = turned_turned_side s consumed;
+  sent = turned_side_sent s consumed;
+  got = turned_side_got s consumed;
+  consumed_is = λ honest. ap (λ (z : Side). z.consumed) (turned_side_honest s consumed honest);
+  idle = λ honest. ap (λ (z : Side). z.call) (turned_side_honest s consumed honest);
+  again = λ given. turned_side_given s consumed given;
   stray = λ op taken. record { turned = refl; sent = refl; got = refl; consumed = refl };
 }
 

@@ -17,9 +17,9 @@ use Rattle.vchan_protocol.specs.Always.Invariant.{Invariant, MayCome, opens, beg
 use Rattle.vchan_protocol.specs.OneEnd.IndexLaw.{TakesAsMade, StoresTakeNothing}
 use Rattle.vchan_protocol.specs.OneEnd.EndingLaw.{EndingNoted}
 use Rattle.vchan_protocol.proofs.Always.InvariantSteps.{each_has_invariant}
-use Rattle.vchan_protocol.proofs.OneEnd.IndexLaws.{takes_as_made, takes_nothing-push}
+use Rattle.vchan_protocol.proofs.OneEnd.IndexLaws.{takes_as_made, takes_nothing_push}
 use Rattle.vchan_protocol.proofs.OneEnd.EndingSteps.{step_keeps_notes}
-use Rattle.vchan_protocol.proofs.History.EventLaws.{settled-trail}
+use Rattle.vchan_protocol.proofs.History.EventLaws.{settled_trail}
 
 -- each step of an end keeps this
 pub record IsKeptBySteps (P : Side → Type 0) : Type 0 where
@@ -114,9 +114,9 @@ stores_kept : IsKeptBySteps TakesNothing
 stores_kept = record {
   opens = λ role orders start state. tt;
   begins = λ s call payload h. tt;
-  makes = λ s taken lawful more takes h. subst StoresTakeNothing (sym (settled-trail (made s (op_next s) taken) (after (plan_left s) taken))) (takes_nothing-push s.trail (op_next s) taken h takes);
+  makes = λ s taken lawful more takes h. subst StoresTakeNothing (sym (settled_trail (made s (op_next s) taken) (after (plan_left s) taken))) (takes_nothing_push s.trail (op_next s) taken h takes);
   turns = λ s consumed h. tt;
-  strays = λ s op taken takes h. takes_nothing-push s.trail op taken h takes;
+  strays = λ s op taken takes h. takes_nothing_push s.trail op taken h takes;
 }
 
 pub each_store : (core : Core) → MayCome core → (who : Role) → StoresTakeNothing (side_of core who).trail

@@ -209,11 +209,11 @@ module _ (e : Standing) where
 -- ---- along a trail
 
 -- what is left of such a plan is such a plan
-pub Notifies-left : (role : Role) (plan : Plan) (events : List PastEvent) → Notifies role plan → Notifies role (rest_after plan events)
+pub Notifies_left : (role : Role) (plan : Plan) (events : List PastEvent) → Notifies role plan → Notifies role (rest_after plan events)
 unfolding Notifies
-Notifies-left role plan [] w = w
-Notifies-left role (answers answer) (event ∷ events) w = tt
-Notifies-left role (does op next) (event ∷ events) w = Notifies-left role (next event.taken) events (w.1 event.taken)
+Notifies_left role plan [] w = w
+Notifies_left role (answers answer) (event ∷ events) w = tt
+Notifies_left role (does op next) (event ∷ events) w = Notifies_left role (next event.taken) events (w.1 event.taken)
 
 -- the next event of such a plan is such a deed
 pub deed_of : (role : Role) (op : Op) (next : ℕ → Plan) → Notifies role (does op next) → Deed role op next

@@ -15,7 +15,7 @@ use Rattle.vchan_protocol.specs.Table.Apply.{word_of}
 use Rattle.vchan_protocol.specs.History.Core.{Core, side_of, op_next}
 use Rattle.vchan_protocol.specs.History.Peer.{held, peer}
 use Rattle.vchan_protocol.specs.Signals.SignalLaw.{peer_index, asked_of, test_of, signal_of, HasJust, OwesSignal, OwesTest, IsWoken, AskStands, IndexIsTold, CloseIsTold, GoneIsTold}
-use Rattle.vchan_protocol.proofs.Signals.Watched.{held_other, held_written, ask_within, ask-pending, ask-index, ask-live, ask-gone, index-ask, index-pending, index-live, index-gone, index-other, live-ask, live-pending, live-index, live-gone, gone-ask, gone-pending, gone-index, gone-live, pending_is, and_keeps, each_bit, other_bit, WatchedKept}
+use Rattle.vchan_protocol.proofs.Signals.Watched.{held_other, held_written, ask_within, ask_pending, ask_index, ask_live, ask_gone, index_ask, index_pending, index_live, index_gone, index_other, live_ask, live_pending, live_index, live_gone, gone_ask, gone_pending, gone_index, gone_live, pending_is, and_keeps, each_bit, other_bit, WatchedKept}
 use Rattle.vchan_protocol.proofs.Signals.OwnSteps.{Told, woken_kept}
 
 -- ---- the other end acts
@@ -122,9 +122,9 @@ other_tests old new who bit header same orders words did just told_if told = rec
       (λ set. inl (λ none. and_keeps bit (held old (ask_word who)) set (ap (λ (w : ℕ). bit_and w (mask (other_bit bit))) (sym asks_are) ∙ none))) (told.asks_stand (other_bit bit)));
   indices_told = each_bit (λ b. IndexIsTold new who b) bit tested
       (other_index old new who (test_of (peer who) bit) same did silent pending (other_bit bit) (other_test (peer who) bit)
-      (held_other old new _ _ (peer_index who (other_bit bit)) orders words (ask-index old.orders who (other_bit bit))) (told.indices_told (other_bit bit)));
-  closes_told = other_close old new who (test_of (peer who) bit) same did silent pending (λ _. held_other old new _ _ (peer_live who) orders words (ask-live old.orders who)) told.closes_told;
-  gone_told = other_gone old new who (test_of (peer who) bit) same did silent pending (held_other old new _ _ (peer_gone who) orders words (ask-gone old.orders who)) told.gone_told;
+      (held_other old new _ _ (peer_index who (other_bit bit)) orders words (ask_index old.orders who (other_bit bit))) (told.indices_told (other_bit bit)));
+  closes_told = other_close old new who (test_of (peer who) bit) same did silent pending (λ _. held_other old new _ _ (peer_live who) orders words (ask_live old.orders who)) told.closes_told;
+  gone_told = other_gone old new who (test_of (peer who) bit) same did silent pending (held_other old new _ _ (peer_gone who) orders words (ask_gone old.orders who)) told.gone_told;
 }
   where
     silent : test_of (peer who) bit ≢ signal_of (peer who)
@@ -134,7 +134,7 @@ other_tests old new who bit header same orders words did just told_if told = rec
     asks_are = held_written old new _ (ask_word who) orders words (ask_within old.orders who (length old.words) header)
 
     pending : held new (own_pending who) ≡ held old (own_pending who)
-    pending = held_other old new _ _ (own_pending who) orders words (ask-pending old.orders who)
+    pending = held_other old new _ _ (own_pending who) orders words (ask_pending old.orders who)
 
     -- if the bit is clear, the end is woken already, since it asked and its peer owes no signal
     told_or_woken : AskStands old who bit → (asked_of (side_of old who).notes bit).since ≡ true → OwesSignal new (peer who) (test_of (peer who) bit) ⊎ IsWoken new who
@@ -155,22 +155,22 @@ pub other_indexes : (old new : Core) (who : Role) (bit : Bit) (value : ℕ) → 
     op_next (side_of old (peer who)) ≡ op → OwesTest new (peer who) bit → Told old who → Told new who
 other_indexes old new who bit value same orders words op is did owes told = record {
   asks_stand = λ b. other_ask old new who op same did silent pending b
-      (λ set. inl (λ none. set (ap (λ (w : ℕ). bit_and w (mask b)) (sym (held_other old new _ _ (ask_word who) orders words (index-ask old.orders who bit))) ∙ none))) (told.asks_stand b);
+      (λ set. inl (λ none. set (ap (λ (w : ℕ). bit_and w (mask b)) (sym (held_other old new _ _ (ask_word who) orders words (index_ask old.orders who bit))) ∙ none))) (told.asks_stand b);
   indices_told = each_bit (λ b. IndexIsTold new who b) bit (λ index asked seen differs. inl owes)
       (other_index old new who op same did silent pending (other_bit bit) untested
-      (held_other old new _ _ (peer_index who (other_bit bit)) orders words (index-other old.orders who bit)) (told.indices_told (other_bit bit)));
-  closes_told = other_close old new who op same did silent pending (λ _. held_other old new _ _ (peer_live who) orders words (index-live old.orders who bit)) told.closes_told;
-  gone_told = other_gone old new who op same did silent pending (held_other old new _ _ (peer_gone who) orders words (index-gone old.orders who bit)) told.gone_told;
+      (held_other old new _ _ (peer_index who (other_bit bit)) orders words (index_other old.orders who bit)) (told.indices_told (other_bit bit)));
+  closes_told = other_close old new who op same did silent pending (λ _. held_other old new _ _ (peer_live who) orders words (index_live old.orders who bit)) told.closes_told;
+  gone_told = other_gone old new who op same did silent pending (held_other old new _ _ (peer_gone who) orders words (index_gone old.orders who bit)) told.gone_told;
 }
   where
     silent : op ≢ signal_of (peer who)
-    silent signal = other_store old.orders (peer_index who bit) value who (index-pending old.orders who bit) (sym is ∙ signal)
+    silent signal = other_store old.orders (peer_index who bit) value who (index_pending old.orders who bit) (sym is ∙ signal)
 
     untested : op ≢ test_of (peer who) (other_bit bit)
     untested test = no_test (Store (peer_index who bit) value) (peer who) (other_bit bit) refl (sym is ∙ test)
 
     pending : held new (own_pending who) ≡ held old (own_pending who)
-    pending = held_other old new _ _ (own_pending who) orders words (index-pending old.orders who bit)
+    pending = held_other old new _ _ (own_pending who) orders words (index_pending old.orders who bit)
 
 -- the peer closes
 pub other_closes : (old new : Core) (who : Role) → side_of new who ≡ side_of old who → new.orders ≡ old.orders →
@@ -178,21 +178,21 @@ pub other_closes : (old new : Core) (who : Role) → side_of new who ≡ side_of
     op_next (side_of old (peer who)) ≡ op → OwesSignal new (peer who) (Store (own_live (peer who)) 0) → Told old who → Told new who
 other_closes old new who same orders words op is did owes told = record {
   asks_stand = λ b. other_ask old new who op same did silent pending b
-      (λ set. inl (λ none. set (ap (λ (w : ℕ). bit_and w (mask b)) (sym (held_other old new _ _ (ask_word who) orders words (live-ask old.orders who))) ∙ none))) (told.asks_stand b);
+      (λ set. inl (λ none. set (ap (λ (w : ℕ). bit_and w (mask b)) (sym (held_other old new _ _ (ask_word who) orders words (live_ask old.orders who))) ∙ none))) (told.asks_stand b);
   indices_told = λ b. other_index old new who op same did silent pending b (untested b)
-      (held_other old new _ _ (peer_index who b) orders words (live-index old.orders who b)) (told.indices_told b);
+      (held_other old new _ _ (peer_index who b) orders words (live_index old.orders who b)) (told.indices_told b);
   closes_told = λ live seen alive shut. inl owes;
-  gone_told = other_gone old new who op same did silent pending (held_other old new _ _ (peer_gone who) orders words (live-gone old.orders who)) told.gone_told;
+  gone_told = other_gone old new who op same did silent pending (held_other old new _ _ (peer_gone who) orders words (live_gone old.orders who)) told.gone_told;
 }
   where
     silent : op ≢ signal_of (peer who)
-    silent signal = other_store old.orders (peer_live who) 0 who (live-pending old.orders who) (sym is ∙ signal)
+    silent signal = other_store old.orders (peer_live who) 0 who (live_pending old.orders who) (sym is ∙ signal)
 
     untested : (b : Bit) → op ≢ test_of (peer who) b
     untested b test = no_test (Store (peer_live who) 0) (peer who) b refl (sym is ∙ test)
 
     pending : held new (own_pending who) ≡ held old (own_pending who)
-    pending = held_other old new _ _ (own_pending who) orders words (live-pending old.orders who)
+    pending = held_other old new _ _ (own_pending who) orders words (live_pending old.orders who)
 
 -- the peer stores its gone word
 pub other_retires : (old new : Core) (who : Role) → side_of new who ≡ side_of old who → new.orders ≡ old.orders →
@@ -200,18 +200,18 @@ pub other_retires : (old new : Core) (who : Role) → side_of new who ≡ side_o
     op_next (side_of old (peer who)) ≡ op → OwesSignal new (peer who) (Store (own_gone (peer who)) 1) → Told old who → Told new who
 other_retires old new who same orders words op is did owes told = record {
   asks_stand = λ b. other_ask old new who op same did silent pending b
-      (λ set. inl (λ none. set (ap (λ (w : ℕ). bit_and w (mask b)) (sym (held_other old new _ _ (ask_word who) orders words (gone-ask old.orders who))) ∙ none))) (told.asks_stand b);
+      (λ set. inl (λ none. set (ap (λ (w : ℕ). bit_and w (mask b)) (sym (held_other old new _ _ (ask_word who) orders words (gone_ask old.orders who))) ∙ none))) (told.asks_stand b);
   indices_told = λ b. other_index old new who op same did silent pending b (untested b)
-      (held_other old new _ _ (peer_index who b) orders words (gone-index old.orders who b)) (told.indices_told b);
-  closes_told = other_close old new who op same did silent pending (λ _. held_other old new _ _ (peer_live who) orders words (gone-live old.orders who)) told.closes_told;
+      (held_other old new _ _ (peer_index who b) orders words (gone_index old.orders who b)) (told.indices_told b);
+  closes_told = other_close old new who op same did silent pending (λ _. held_other old new _ _ (peer_live who) orders words (gone_live old.orders who)) told.closes_told;
   gone_told = λ seen gone. inl owes;
 }
   where
     silent : op ≢ signal_of (peer who)
-    silent signal = other_store old.orders (peer_gone who) 1 who (gone-pending old.orders who) (sym is ∙ signal)
+    silent signal = other_store old.orders (peer_gone who) 1 who (gone_pending old.orders who) (sym is ∙ signal)
 
     untested : (b : Bit) → op ≢ test_of (peer who) b
     untested b test = no_test (Store (peer_gone who) 1) (peer who) b refl (sym is ∙ test)
 
     pending : held new (own_pending who) ≡ held old (own_pending who)
-    pending = held_other old new _ _ (own_pending who) orders words (gone-pending old.orders who)
+    pending = held_other old new _ _ (own_pending who) orders words (gone_pending old.orders who)

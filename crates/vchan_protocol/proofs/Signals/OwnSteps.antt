@@ -22,26 +22,26 @@ use Rattle.vchan_protocol.specs.Table.Apply.{words_after, value_taken}
 use Rattle.vchan_protocol.specs.History.Core.{Core, side_of, plan_left, op_next, begun_standing, noted, noted_load, made, event}
 use Rattle.vchan_protocol.specs.History.Peer.{held, peer}
 use Rattle.vchan_protocol.specs.Signals.SignalLaw.{own_index, peer_index, asked_of, test_of, signal_of, HasJust, OwesSignal, OwesTest, IsWoken, AskStands, IndexIsTold, CloseIsTold, GoneIsTold}
-use Rattle.vchan_protocol.proofs.Signals.Watched.{held_other, held_written, ask_within, ask-pending, ask-index, ask-live, ask-gone, or_sets, or_keeps, each_bit, other_bit, WatchedKept}
-use Rattle.vchan_protocol.proofs.Signals.Notifies.{Notifies, notifies_answers, notifies_call, Notifies-left}
+use Rattle.vchan_protocol.proofs.Signals.Watched.{held_other, held_written, ask_within, ask_pending, ask_index, ask_live, ask_gone, or_sets, or_keeps, each_bit, other_bit, WatchedKept}
+use Rattle.vchan_protocol.proofs.Signals.Notifies.{Notifies, notifies_answers, notifies_call, Notifies_left}
 
 -- ---- an end after an event
 
-pub rest_after-push : (plan : Plan) (events : List PastEvent) (op : Op) (value : ℕ) → rest_after plan (events ++ past op value ∷ []) ≡ after (rest_after plan events) value
-rest_after-push (answers answer) [] op value = refl
-rest_after-push (does first next) [] op value = refl
-rest_after-push (answers answer) (event ∷ events) op value = refl
-rest_after-push (does first next) (event ∷ events) op value = rest_after-push (next event.taken) events op value
+pub rest_after_push : (plan : Plan) (events : List PastEvent) (op : Op) (value : ℕ) → rest_after plan (events ++ past op value ∷ []) ≡ after (rest_after plan events) value
+rest_after_push (answers answer) [] op value = refl
+rest_after_push (does first next) [] op value = refl
+rest_after_push (answers answer) (event ∷ events) op value = refl
+rest_after_push (does first next) (event ∷ events) op value = rest_after_push (next event.taken) events op value
 
 -- what is left of a call after one more event
-pub plan_left-made : (s : Side) (op : Op) (taken : ℕ) → plan_left (made s op taken) ≡ after (plan_left s) taken
-plan_left-made s op taken = go s.call
+pub plan_left_made : (s : Side) (op : Op) (taken : ℕ) → plan_left (made s op taken) ≡ after (plan_left s) taken
+plan_left_made s op taken = go s.call
   where
     go : (call : Option Begun) →
         elim call [ None ↦ answers Done | Some b ↦ rest_after (plan_of (begun_standing s b) b.call) (s.trail ++ past op taken ∷ []) ] ≡
         after (elim call [ None ↦ answers Done | Some b ↦ rest_after (plan_of (begun_standing s b) b.call) s.trail ]) taken
     go None = refl
-    go (Some b) = rest_after-push (plan_of (begun_standing s b) b.call) s.trail op taken
+    go (Some b) = rest_after_push (plan_of (begun_standing s b) b.call) s.trail op taken
 
 -- what is left of any call is made of deeds
 pub plan_notifies : (s : Side) → Notifies s.role (plan_left s)
@@ -49,7 +49,7 @@ plan_notifies s = go s.call
   where
     go : (call : Option Begun) → Notifies s.role (elim call [ None ↦ answers Done | Some b ↦ rest_after (plan_of (begun_standing s b) b.call) s.trail ])
     go None = notifies_answers s.role Done
-    go (Some b) = Notifies-left s.role (plan_of (begun_standing s b) b.call) s.trail (notifies_call (begun_standing s b) b.call)
+    go (Some b) = Notifies_left s.role (plan_of (begun_standing s b) b.call) s.trail (notifies_call (begun_standing s b) b.call)
 
 -- ---- one event, made by an end while the other stands
 
@@ -139,24 +139,24 @@ own_same old new who peer_same kept notes told = record {
 
 -- ---- a load of one's own
 
-since-load : (word : WordName) (who : Role) (taken : ℕ) (n : Notes) (bit : Bit) → (asked_of (noted_load word who taken n) bit).since ≡ (asked_of n bit).since
-since-load LeftProd Server taken n Written = refl
-since-load LeftProd Server taken n Consumed = refl
-since-load RightProd Client taken n Written = refl
-since-load RightProd Client taken n Consumed = refl
-since-load LeftCons Client taken n Written = refl
-since-load LeftCons Client taken n Consumed = refl
-since-load RightCons Server taken n Written = refl
-since-load RightCons Server taken n Consumed = refl
-since-load CliLive Server taken n Written = refl
-since-load CliLive Server taken n Consumed = refl
-since-load SrvLive Client taken n Written = refl
-since-load SrvLive Client taken n Consumed = refl
-since-load CliGone Server taken n Written = refl
-since-load CliGone Server taken n Consumed = refl
-since-load SrvGone Client taken n Written = refl
-since-load SrvGone Client taken n Consumed = refl
-since-load _ _ taken n bit = refl
+since_load : (word : WordName) (who : Role) (taken : ℕ) (n : Notes) (bit : Bit) → (asked_of (noted_load word who taken n) bit).since ≡ (asked_of n bit).since
+since_load LeftProd Server taken n Written = refl
+since_load LeftProd Server taken n Consumed = refl
+since_load RightProd Client taken n Written = refl
+since_load RightProd Client taken n Consumed = refl
+since_load LeftCons Client taken n Written = refl
+since_load LeftCons Client taken n Consumed = refl
+since_load RightCons Server taken n Written = refl
+since_load RightCons Server taken n Consumed = refl
+since_load CliLive Server taken n Written = refl
+since_load CliLive Server taken n Consumed = refl
+since_load SrvLive Client taken n Written = refl
+since_load SrvLive Client taken n Consumed = refl
+since_load CliGone Server taken n Written = refl
+since_load CliGone Server taken n Consumed = refl
+since_load SrvGone Client taken n Written = refl
+since_load SrvGone Client taken n Consumed = refl
+since_load _ _ taken n bit = refl
 
 -- it notes the peer's index, or leaves what is noted of that
 abbrev pub SeesIndex : WordName → Role → ℕ → Notes → Bit → Type 0
@@ -236,7 +236,7 @@ own_load old new who word peer_same kept notes told = record {
     n = (side_of old who).notes
 
     since : (bit : Bit) → (asked_of (side_of new who).notes bit).since ≡ true → (asked_of (side_of old who).notes bit).since ≡ true
-    since bit now = sym (since-load word who (held old word) (side_of old who).notes bit) ∙ ap (λ (m : Notes). (asked_of m bit).since) (sym notes) ∙ now
+    since bit now = sym (since_load word who (held old word) (side_of old who).notes bit) ∙ ap (λ (m : Notes). (asked_of m bit).since) (sym notes) ∙ now
 
     index_noted : (bit : Bit) (index : ℕ) → (asked_of (side_of new who).notes bit).since ≡ true → (asked_of (side_of new who).notes bit).seen ≡ Some index →
         low32 (held old (peer_index who bit)) ≢ index → ((asked_of (side_of old who).notes bit).since ≡ true) × ((asked_of (side_of old who).notes bit).seen ≡ Some index)
@@ -279,26 +279,26 @@ own_load old new who word peer_same kept notes told = record {
 
 -- ---- an ask of one's own
 
-since-ask : (set : Bit) (who : Role) (word : WordName) (taken : ℕ) (n : Notes) → (asked_of (noted (Or word (mask set)) who taken n) (other_bit set)).since ≡ (asked_of n (other_bit set)).since
-since-ask Written who word taken n = refl
-since-ask Consumed who word taken n = refl
+since_ask : (set : Bit) (who : Role) (word : WordName) (taken : ℕ) (n : Notes) → (asked_of (noted (Or word (mask set)) who taken n) (other_bit set)).since ≡ (asked_of n (other_bit set)).since
+since_ask Written who word taken n = refl
+since_ask Consumed who word taken n = refl
 
-seen-ask : (set : Bit) (who : Role) (word : WordName) (taken : ℕ) (n : Notes) → (asked_of (noted (Or word (mask set)) who taken n) (other_bit set)).seen ≡ (asked_of n (other_bit set)).seen
-seen-ask Written who word taken n = refl
-seen-ask Consumed who word taken n = refl
+seen_ask : (set : Bit) (who : Role) (word : WordName) (taken : ℕ) (n : Notes) → (asked_of (noted (Or word (mask set)) who taken n) (other_bit set)).seen ≡ (asked_of n (other_bit set)).seen
+seen_ask Written who word taken n = refl
+seen_ask Consumed who word taken n = refl
 
 -- nothing was loaded since
-fresh-ask : (set : Bit) (who : Role) (word : WordName) (taken : ℕ) (n : Notes) → (asked_of (noted (Or word (mask set)) who taken n) set).seen ≡ None
-fresh-ask Written who word taken n = refl
-fresh-ask Consumed who word taken n = refl
+fresh_ask : (set : Bit) (who : Role) (word : WordName) (taken : ℕ) (n : Notes) → (asked_of (noted (Or word (mask set)) who taken n) set).seen ≡ None
+fresh_ask Written who word taken n = refl
+fresh_ask Consumed who word taken n = refl
 
-live-ask_noted : (set : Bit) (who : Role) (word : WordName) (taken : ℕ) (n : Notes) → (noted (Or word (mask set)) who taken n).live ≡ n.live
-live-ask_noted Written who word taken n = refl
-live-ask_noted Consumed who word taken n = refl
+live_ask_noted : (set : Bit) (who : Role) (word : WordName) (taken : ℕ) (n : Notes) → (noted (Or word (mask set)) who taken n).live ≡ n.live
+live_ask_noted Written who word taken n = refl
+live_ask_noted Consumed who word taken n = refl
 
-gone-ask_noted : (set : Bit) (who : Role) (word : WordName) (taken : ℕ) (n : Notes) → (noted (Or word (mask set)) who taken n).gone ≡ n.gone
-gone-ask_noted Written who word taken n = refl
-gone-ask_noted Consumed who word taken n = refl
+gone_ask_noted : (set : Bit) (who : Role) (word : WordName) (taken : ℕ) (n : Notes) → (noted (Or word (mask set)) who taken n).gone ≡ n.gone
+gone_ask_noted Written who word taken n = refl
+gone_ask_noted Consumed who word taken n = refl
 
 pub own_asks : (old new : Core) (who : Role) (set : Bit) → 14 ≤ length old.words → side_of new (peer who) ≡ side_of old (peer who) → new.orders ≡ old.orders →
     new.words ≡ slice_set old.words (index_of old.orders (ask_word who)) (bit_or (held old (ask_word who)) (mask set)) →
@@ -307,21 +307,21 @@ own_asks old new who set header peer_same orders words notes told = record {
   asks_stand = each_bit (λ bit. AskStands new who bit) set (λ asked. inl (λ none. or_sets set (held old (ask_word who)) (ap (λ (w : ℕ). bit_and w (mask set)) (sym asks_are) ∙ none)))
       (own_ask old new who peer_same pending (other_bit set) since (λ was. λ none. or_keeps set (other_bit set) (held old (ask_word who)) was (ap (λ (w : ℕ). bit_and w (mask (other_bit set))) (sym asks_are) ∙ none)) (told.asks_stand (other_bit set)));
   indices_told = each_bit (λ bit. IndexIsTold new who bit) set
-      (λ index asked seen differs. absurd (none-some index (sym (fresh-ask set who (ask_word who) (held old (ask_word who)) (side_of old who).notes) ∙ ap (λ (n : Notes). (asked_of n set).seen) (sym notes) ∙ seen)))
-      (own_index_told old new who peer_same pending (other_bit set) (held_other old new _ _ (peer_index who (other_bit set)) orders words (ask-index old.orders who (other_bit set)))
-      (λ index asked seen differs. (since asked, sym (seen-ask set who (ask_word who) (held old (ask_word who)) (side_of old who).notes) ∙ ap (λ (n : Notes). (asked_of n (other_bit set)).seen) (sym notes) ∙ seen))
+      (λ index asked seen differs. absurd (none-some index (sym (fresh_ask set who (ask_word who) (held old (ask_word who)) (side_of old who).notes) ∙ ap (λ (n : Notes). (asked_of n set).seen) (sym notes) ∙ seen)))
+      (own_index_told old new who peer_same pending (other_bit set) (held_other old new _ _ (peer_index who (other_bit set)) orders words (ask_index old.orders who (other_bit set)))
+      (λ index asked seen differs. (since asked, sym (seen_ask set who (ask_word who) (held old (ask_word who)) (side_of old who).notes) ∙ ap (λ (n : Notes). (asked_of n (other_bit set)).seen) (sym notes) ∙ seen))
       (told.indices_told (other_bit set)));
-  closes_told = own_close_told old new who peer_same pending (λ _. held_other old new _ _ (peer_live who) orders words (ask-live old.orders who))
-      (λ live seen alive shut. sym (live-ask_noted set who (ask_word who) (held old (ask_word who)) (side_of old who).notes) ∙ ap (λ (n : Notes). n.live) (sym notes) ∙ seen) told.closes_told;
-  gone_told = own_gone_told old new who peer_same pending (held_other old new _ _ (peer_gone who) orders words (ask-gone old.orders who))
-      (λ seen gone. sym (gone-ask_noted set who (ask_word who) (held old (ask_word who)) (side_of old who).notes) ∙ ap (λ (n : Notes). n.gone) (sym notes) ∙ seen) told.gone_told;
+  closes_told = own_close_told old new who peer_same pending (λ _. held_other old new _ _ (peer_live who) orders words (ask_live old.orders who))
+      (λ live seen alive shut. sym (live_ask_noted set who (ask_word who) (held old (ask_word who)) (side_of old who).notes) ∙ ap (λ (n : Notes). n.live) (sym notes) ∙ seen) told.closes_told;
+  gone_told = own_gone_told old new who peer_same pending (held_other old new _ _ (peer_gone who) orders words (ask_gone old.orders who))
+      (λ seen gone. sym (gone_ask_noted set who (ask_word who) (held old (ask_word who)) (side_of old who).notes) ∙ ap (λ (n : Notes). n.gone) (sym notes) ∙ seen) told.gone_told;
 }
   where
     asks_are : held new (ask_word who) ≡ bit_or (held old (ask_word who)) (mask set)
     asks_are = held_written old new _ (ask_word who) orders words (ask_within old.orders who (length old.words) header)
 
     pending : held new (own_pending who) ≡ held old (own_pending who)
-    pending = held_other old new _ _ (own_pending who) orders words (ask-pending old.orders who)
+    pending = held_other old new _ _ (own_pending who) orders words (ask_pending old.orders who)
 
     since : (asked_of (side_of new who).notes (other_bit set)).since ≡ true → (asked_of (side_of old who).notes (other_bit set)).since ≡ true
-    since asked = sym (since-ask set who (ask_word who) (held old (ask_word who)) (side_of old who).notes) ∙ ap (λ (n : Notes). (asked_of n (other_bit set)).since) (sym notes) ∙ asked
+    since asked = sym (since_ask set who (ask_word who) (held old (ask_word who)) (side_of old who).notes) ∙ ap (λ (n : Notes). (asked_of n (other_bit set)).since) (sym notes) ∙ asked

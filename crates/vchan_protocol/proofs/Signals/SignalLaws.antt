@@ -33,7 +33,7 @@ use Rattle.vchan_protocol.proofs.History.EventLaws.{event_by}
 use Rattle.vchan_protocol.proofs.Signals.Watched.{held_written, kept_elsewhere, kept_all, pending_within, unwatched_notify, unwatched_index, unwatched_own_live, unwatched_peer_pending, unwatched_gone, unwatched_peer_ask, unwatched_peer_own, unwatched_high, kept_connect, ask_is, pending_is, index_is, live_is, gone_is, WatchedKept, Unwatched}
 use Rattle.vchan_protocol.proofs.Signals.Notifies.{Deed, Notifies, deed_of}
 use Rattle.vchan_protocol.proofs.Signals.Notifies.{loads, loads_byte, stores_byte, asks, takes_event, tests, stores_index, closes, signals, connects, retires}
-use Rattle.vchan_protocol.proofs.Signals.OwnSteps.{plan_left-made, plan_notifies, Step, Told, own_same, own_load, own_asks}
+use Rattle.vchan_protocol.proofs.Signals.OwnSteps.{plan_left_made, plan_notifies, Step, Told, own_same, own_load, own_asks}
 use Rattle.vchan_protocol.proofs.Signals.OtherSteps.{other_same, is_store, is_test, no_signal, no_test, other_store, woken_told, other_tests, other_indexes, other_closes, other_retires}
 
 -- ---- an event taken
@@ -54,9 +54,9 @@ told_nothing core who notes = record {
 -- ---- each deed, for the end that makes it and for the other one
 
 -- a client that opens gives no signal
-connect-pending : (orders : Orders) (who : Role) → (index_of orders (own_pending who) == index_of orders CliLive) ≡ false
-connect-pending orders Server = refl
-connect-pending orders Client = refl
+connect_pending : (orders : Orders) (who : Role) → (index_of orders (own_pending who) == index_of orders CliLive) ≡ false
+connect_pending orders Server = refl
+connect_pending orders Client = refl
 
 module _ (old new : Core) (who other : Role) (op : Op) (next : ℕ → Plan) (step : Step old new who other op next) where
   words_at : (known : Op) → op ≡ known → new.words ≡ words_after old.orders old.words step.payload known
@@ -154,7 +154,7 @@ told_other old new who op next header step deed told = go deed
     go (stores_index bit index is more) = indexed bit index is more
     go (closes is more) = closed is more
     go (signals is) = woken is
-    go (connects is) = stored CliLive 1 is (connect-pending old.orders who) (kept_connect old new who header step.orders_are (words (Store CliLive 1) is))
+    go (connects is) = stored CliLive 1 is (connect_pending old.orders who) (kept_connect old new who header step.orders_are (words (Store CliLive 1) is))
     go (retires is more) = retired is more
 
 -- ---- events of a core state
@@ -182,7 +182,7 @@ step_of core Server op next role left = record {
   notes_are = ap (λ (r : Role). noted op r (value_taken core.orders core.words op) core.server.notes) role;
   just = (core.server.trail, value_taken core.orders core.words op, refl);
   did = ap next_op left;
-  does_next = ap next_op (plan_left-made core.server op (value_taken core.orders core.words op) ∙ ap (λ (p : Plan). after p (value_taken core.orders core.words op)) left);
+  does_next = ap next_op (plan_left_made core.server op (value_taken core.orders core.words op) ∙ ap (λ (p : Plan). after p (value_taken core.orders core.words op)) left);
   other_is = refl;
 }
 step_of core Client op next role left = record {
@@ -192,7 +192,7 @@ step_of core Client op next role left = record {
   notes_are = ap (λ (r : Role). noted op r (value_taken core.orders core.words op) core.client.notes) role;
   just = (core.client.trail, value_taken core.orders core.words op, refl);
   did = ap next_op left;
-  does_next = ap next_op (plan_left-made core.client op (value_taken core.orders core.words op) ∙ ap (λ (p : Plan). after p (value_taken core.orders core.words op)) left);
+  does_next = ap next_op (plan_left_made core.client op (value_taken core.orders core.words op) ∙ ap (λ (p : Plan). after p (value_taken core.orders core.words op)) left);
   other_is = refl;
 }
 
@@ -232,8 +232,8 @@ settled_keeps core Client (does op next) left h = h
 
 -- what is left once the op is carried out
 pub left_then : (core : Core) (who : Role) (op : Op) (next : ℕ → Plan) → plan_left (side_of core who) ≡ does op next → plan_left (side_of (carried_out core who op) who) ≡ next (value_taken core.orders core.words op)
-left_then core Server op next left = plan_left-made core.server op (value_taken core.orders core.words op) ∙ ap (λ (p : Plan). after p (value_taken core.orders core.words op)) left
-left_then core Client op next left = plan_left-made core.client op (value_taken core.orders core.words op) ∙ ap (λ (p : Plan). after p (value_taken core.orders core.words op)) left
+left_then core Server op next left = plan_left_made core.server op (value_taken core.orders core.words op) ∙ ap (λ (p : Plan). after p (value_taken core.orders core.words op)) left
+left_then core Client op next left = plan_left_made core.client op (value_taken core.orders core.words op) ∙ ap (λ (p : Plan). after p (value_taken core.orders core.words op)) left
 
 pub event_keeps : (core : Core) (who : Role) → HasEnds core → GoesOn (plan_left (side_of core who)) → NoLostSignal core → NoLostSignal (event core who)
 unfolding event
@@ -246,11 +246,11 @@ event_keeps core who ends more h = go who (plan_left (side_of core who)) refl mo
 
 -- ---- begins, and whole calls
 
-op_next-idle : (s : Side) → s.call ≡ None → op_next s ≡ Nothing
-op_next-idle s is = ap (λ (c : Option Begun). next_op (elim c [ None ↦ answers Done | Some b ↦ rest_after (plan_of (begun_standing s b) b.call) s.trail ])) is
+op_next_idle : (s : Side) → s.call ≡ None → op_next s ≡ Nothing
+op_next_idle s is = ap (λ (c : Option Begun). next_op (elim c [ None ↦ answers Done | Some b ↦ rest_after (plan_of (begun_standing s b) b.call) s.trail ])) is
 
 pub begin_keeps : (core : Core) (who : Role) (call : Call) (payload : List ℕ) → (side_of core who).call ≡ None → NoLostSignal core → NoLostSignal (begun core who call payload)
-begin_keeps core who call payload idle h = renewed core who (begins (side_of core who) call payload) refl (op_next-idle (side_of core who) idle) h
+begin_keeps core who call payload idle h = renewed core who (begins (side_of core who) call payload) refl (op_next_idle (side_of core who) idle) h
 
 ends_carried : (core : Core) (who : Role) (op : Op) → HasEnds core → HasEnds (carried_out core who op)
 ends_carried core Server op h = record {
@@ -317,7 +317,7 @@ pub misses_nothing : (core : Core) (who : Role) (bit : Bit) → NoLostSignal cor
 misses_nothing core who bit h w = record { bit_stands = bit_stands (h.asks_stand who bit w.asked); index_stands = index_stands; peer_open = peer_open; peer_here = peer_here }
   where
     idle : op_next (side_of core (peer who)) ≡ Nothing
-    idle = op_next-idle (side_of core (peer who)) w.peer_idle
+    idle = op_next_idle (side_of core (peer who)) w.peer_idle
 
     silent : (op : Op) → OwesSignal core (peer who) op → ⊥
     silent op owes = no_signal Nothing (peer who) refl (sym idle ∙ owes.1)

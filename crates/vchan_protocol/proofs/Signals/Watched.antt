@@ -82,89 +82,89 @@ pending_within orders Client n h = omega (arith, h)
 pub live_within : (orders : Orders) (n : ℕ) → 14 ≤ n → index_of orders CliLive < n
 live_within orders n h = omega (arith, h)
 
-pub ask-pending : (orders : Orders) (who : Role) → (index_of orders (own_pending who) == index_of orders (ask_word who)) ≡ false
-ask-pending orders Server = refl
-ask-pending orders Client = refl
+pub ask_pending : (orders : Orders) (who : Role) → (index_of orders (own_pending who) == index_of orders (ask_word who)) ≡ false
+ask_pending orders Server = refl
+ask_pending orders Client = refl
 
-pub ask-index : (orders : Orders) (who : Role) (bit : Bit) → (index_of orders (peer_index who bit) == index_of orders (ask_word who)) ≡ false
-ask-index orders Server Written = refl
-ask-index orders Server Consumed = refl
-ask-index orders Client Written = refl
-ask-index orders Client Consumed = refl
+pub ask_index : (orders : Orders) (who : Role) (bit : Bit) → (index_of orders (peer_index who bit) == index_of orders (ask_word who)) ≡ false
+ask_index orders Server Written = refl
+ask_index orders Server Consumed = refl
+ask_index orders Client Written = refl
+ask_index orders Client Consumed = refl
 
-pub ask-live : (orders : Orders) (who : Role) → (index_of orders (peer_live who) == index_of orders (ask_word who)) ≡ false
-ask-live orders Server = refl
-ask-live orders Client = refl
+pub ask_live : (orders : Orders) (who : Role) → (index_of orders (peer_live who) == index_of orders (ask_word who)) ≡ false
+ask_live orders Server = refl
+ask_live orders Client = refl
 
-pub ask-gone : (orders : Orders) (who : Role) → (index_of orders (peer_gone who) == index_of orders (ask_word who)) ≡ false
-ask-gone orders Server = refl
-ask-gone orders Client = refl
+pub ask_gone : (orders : Orders) (who : Role) → (index_of orders (peer_gone who) == index_of orders (ask_word who)) ≡ false
+ask_gone orders Server = refl
+ask_gone orders Client = refl
 
-pub index-ask : (orders : Orders) (who : Role) (bit : Bit) → (index_of orders (ask_word who) == index_of orders (peer_index who bit)) ≡ false
-index-ask orders Server Written = refl
-index-ask orders Server Consumed = refl
-index-ask orders Client Written = refl
-index-ask orders Client Consumed = refl
+pub index_ask : (orders : Orders) (who : Role) (bit : Bit) → (index_of orders (ask_word who) == index_of orders (peer_index who bit)) ≡ false
+index_ask orders Server Written = refl
+index_ask orders Server Consumed = refl
+index_ask orders Client Written = refl
+index_ask orders Client Consumed = refl
 
-pub index-pending : (orders : Orders) (who : Role) (bit : Bit) → (index_of orders (own_pending who) == index_of orders (peer_index who bit)) ≡ false
-index-pending orders Server Written = refl
-index-pending orders Server Consumed = refl
-index-pending orders Client Written = refl
-index-pending orders Client Consumed = refl
+pub index_pending : (orders : Orders) (who : Role) (bit : Bit) → (index_of orders (own_pending who) == index_of orders (peer_index who bit)) ≡ false
+index_pending orders Server Written = refl
+index_pending orders Server Consumed = refl
+index_pending orders Client Written = refl
+index_pending orders Client Consumed = refl
 
-pub index-live : (orders : Orders) (who : Role) (bit : Bit) → (index_of orders (peer_live who) == index_of orders (peer_index who bit)) ≡ false
-index-live orders Server Written = refl
-index-live orders Server Consumed = refl
-index-live orders Client Written = refl
-index-live orders Client Consumed = refl
+pub index_live : (orders : Orders) (who : Role) (bit : Bit) → (index_of orders (peer_live who) == index_of orders (peer_index who bit)) ≡ false
+index_live orders Server Written = refl
+index_live orders Server Consumed = refl
+index_live orders Client Written = refl
+index_live orders Client Consumed = refl
 
-pub index-gone : (orders : Orders) (who : Role) (bit : Bit) → (index_of orders (peer_gone who) == index_of orders (peer_index who bit)) ≡ false
-index-gone orders Server Written = refl
-index-gone orders Server Consumed = refl
-index-gone orders Client Written = refl
-index-gone orders Client Consumed = refl
+pub index_gone : (orders : Orders) (who : Role) (bit : Bit) → (index_of orders (peer_gone who) == index_of orders (peer_index who bit)) ≡ false
+index_gone orders Server Written = refl
+index_gone orders Server Consumed = refl
+index_gone orders Client Written = refl
+index_gone orders Client Consumed = refl
 
-pub index-other : (orders : Orders) (who : Role) (bit : Bit) → (index_of orders (peer_index who (other_bit bit)) == index_of orders (peer_index who bit)) ≡ false
-index-other orders Server Written = refl
-index-other orders Server Consumed = refl
-index-other orders Client Written = refl
-index-other orders Client Consumed = refl
+pub index_other : (orders : Orders) (who : Role) (bit : Bit) → (index_of orders (peer_index who (other_bit bit)) == index_of orders (peer_index who bit)) ≡ false
+index_other orders Server Written = refl
+index_other orders Server Consumed = refl
+index_other orders Client Written = refl
+index_other orders Client Consumed = refl
 
-pub live-ask : (orders : Orders) (who : Role) → (index_of orders (ask_word who) == index_of orders (peer_live who)) ≡ false
-live-ask orders Server = refl
-live-ask orders Client = refl
+pub live_ask : (orders : Orders) (who : Role) → (index_of orders (ask_word who) == index_of orders (peer_live who)) ≡ false
+live_ask orders Server = refl
+live_ask orders Client = refl
 
-pub live-pending : (orders : Orders) (who : Role) → (index_of orders (own_pending who) == index_of orders (peer_live who)) ≡ false
-live-pending orders Server = refl
-live-pending orders Client = refl
+pub live_pending : (orders : Orders) (who : Role) → (index_of orders (own_pending who) == index_of orders (peer_live who)) ≡ false
+live_pending orders Server = refl
+live_pending orders Client = refl
 
-pub live-index : (orders : Orders) (who : Role) (bit : Bit) → (index_of orders (peer_index who bit) == index_of orders (peer_live who)) ≡ false
-live-index orders Server Written = refl
-live-index orders Server Consumed = refl
-live-index orders Client Written = refl
-live-index orders Client Consumed = refl
+pub live_index : (orders : Orders) (who : Role) (bit : Bit) → (index_of orders (peer_index who bit) == index_of orders (peer_live who)) ≡ false
+live_index orders Server Written = refl
+live_index orders Server Consumed = refl
+live_index orders Client Written = refl
+live_index orders Client Consumed = refl
 
-pub live-gone : (orders : Orders) (who : Role) → (index_of orders (peer_gone who) == index_of orders (peer_live who)) ≡ false
-live-gone orders Server = refl
-live-gone orders Client = refl
+pub live_gone : (orders : Orders) (who : Role) → (index_of orders (peer_gone who) == index_of orders (peer_live who)) ≡ false
+live_gone orders Server = refl
+live_gone orders Client = refl
 
-pub gone-ask : (orders : Orders) (who : Role) → (index_of orders (ask_word who) == index_of orders (peer_gone who)) ≡ false
-gone-ask orders Server = refl
-gone-ask orders Client = refl
+pub gone_ask : (orders : Orders) (who : Role) → (index_of orders (ask_word who) == index_of orders (peer_gone who)) ≡ false
+gone_ask orders Server = refl
+gone_ask orders Client = refl
 
-pub gone-pending : (orders : Orders) (who : Role) → (index_of orders (own_pending who) == index_of orders (peer_gone who)) ≡ false
-gone-pending orders Server = refl
-gone-pending orders Client = refl
+pub gone_pending : (orders : Orders) (who : Role) → (index_of orders (own_pending who) == index_of orders (peer_gone who)) ≡ false
+gone_pending orders Server = refl
+gone_pending orders Client = refl
 
-pub gone-index : (orders : Orders) (who : Role) (bit : Bit) → (index_of orders (peer_index who bit) == index_of orders (peer_gone who)) ≡ false
-gone-index orders Server Written = refl
-gone-index orders Server Consumed = refl
-gone-index orders Client Written = refl
-gone-index orders Client Consumed = refl
+pub gone_index : (orders : Orders) (who : Role) (bit : Bit) → (index_of orders (peer_index who bit) == index_of orders (peer_gone who)) ≡ false
+gone_index orders Server Written = refl
+gone_index orders Server Consumed = refl
+gone_index orders Client Written = refl
+gone_index orders Client Consumed = refl
 
-pub gone-live : (orders : Orders) (who : Role) → (index_of orders (peer_live who) == index_of orders (peer_gone who)) ≡ false
-gone-live orders Server = refl
-gone-live orders Client = refl
+pub gone_live : (orders : Orders) (who : Role) → (index_of orders (peer_live who) == index_of orders (peer_gone who)) ≡ false
+gone_live orders Server = refl
+gone_live orders Client = refl
 
 -- ---- words that an end doesn't watch
 

@@ -9,7 +9,7 @@ use Rattle.vchan_protocol.specs.declared.call.Bit.{Bit}
 use Rattle.vchan_protocol.specs.declared.call.Bit.TheVariants.{Written, Consumed}
 use Rattle.vchan_protocol.specs.declared.call.Call.{Call}
 use Rattle.vchan_protocol.specs.declared.call.Call.TheVariants.{Write, Send, Read, Recv, Drain, DataReady, BufferSpace, Connect, Close, TakeEvent, Retire, PeerGone}
-use Rattle.vchan_protocol.proofs.Table.PlanLaws.{Leads-more}
+use Rattle.vchan_protocol.proofs.Table.PlanLaws.{Leads_more}
 use Rattle.std.proofs.lemmas.List.{length_push}
 use Rattle.vchan_protocol.specs.declared.call.EndState.{EndState}
 use Rattle.vchan_protocol.specs.declared.call.EndState.TheVariants.{Fresh, Open, Shut}
@@ -111,9 +111,9 @@ module _ (e : Standing) (n : ℕ) where
   most_moved : ℕ
   most_moved = min n (size (read_order e))
 
-  most_moved-is : most_moved ≡ min n (size (read_order e))
+  most_moved_is : most_moved ≡ min n (size (read_order e))
   unfolding most_moved
-  most_moved-is = refl
+  most_moved_is = refl
 
   ends_drain_last : (prod : ℕ) → EndsWithin (3 + most_moved) (drain_last e n prod)
   unfolding drain_last most_moved
@@ -212,7 +212,7 @@ ends_call e (Write n) = ends_write e n
 ends_call e (Send n) = ends_send e n
 ends_call e (Read n) = ends_read e n
 ends_call e (Recv n) = ends_recv e n
-ends_call e (Drain n) = subst (λ (k : ℕ). EndsWithin (10 + k) (drain e n)) (most_moved-is e n) (ends_drain e n)
+ends_call e (Drain n) = subst (λ (k : ℕ). EndsWithin (10 + k) (drain e n)) (most_moved_is e n) (ends_drain e n)
 ends_call e DataReady = ends_does _ 1 _ _ (omega arith) (λ _. ends_does _ 0 _ _ (omega arith) (λ value. ends_answers _ _))
 ends_call e BufferSpace = ends_does _ 1 _ _ (omega arith) (λ _. ends_does _ 0 _ _ (omega arith) (λ value. ends_answers _ _))
 ends_call e Connect = ends_connect e
@@ -222,15 +222,15 @@ ends_call e PeerGone = ends_does _ 0 _ _ (omega arith) (λ _. ends_answers _ _)
 ends_call e Retire = ends_retire e e.state
 
 -- a trail is no longer than the bound
-pub length-Leads : (plan : Plan) (events : List PastEvent) (rest : Plan) (most : ℕ) → EndsWithin most plan → Leads plan events rest → length events ≤ most
+pub length_Leads : (plan : Plan) (events : List PastEvent) (rest : Plan) (most : ℕ) → EndsWithin most plan → Leads plan events rest → length events ≤ most
 unfolding EndsWithin
-length-Leads plan [] rest most w led = omega arith
-length-Leads (answers answer) (event ∷ events) rest most w led = absurd led
-length-Leads (does op next) (event ∷ events) rest zero w led = absurd w
-length-Leads (does op next) (event ∷ events) rest (suc most) w led =
-    omega (arith, length-Leads (next event.taken) events rest most (w event.taken) led.1)
+length_Leads plan [] rest most w led = omega arith
+length_Leads (answers answer) (event ∷ events) rest most w led = absurd led
+length_Leads (does op next) (event ∷ events) rest zero w led = absurd w
+length_Leads (does op next) (event ∷ events) rest (suc most) w led =
+    omega (arith, length_Leads (next event.taken) events rest most (w event.taken) led.1)
 
 -- if an event is left, the trail is shorter than the bound
-pub length-Leads-more : (plan : Plan) (events : List PastEvent) (rest : Plan) (most : ℕ) → EndsWithin most plan → Leads plan events rest → GoesOn rest → length events < most
-length-Leads-more plan events rest most w led more =
-    omega (arith, length-Leads plan (events ++ past (next_op rest) 0 ∷ []) (after rest 0) most w (Leads-more plan events rest 0 more led), length_push events (past (next_op rest) 0))
+pub length_Leads_more : (plan : Plan) (events : List PastEvent) (rest : Plan) (most : ℕ) → EndsWithin most plan → Leads plan events rest → GoesOn rest → length events < most
+length_Leads_more plan events rest most w led more =
+    omega (arith, length_Leads plan (events ++ past (next_op rest) 0 ∷ []) (after rest 0) most w (Leads_more plan events rest 0 more led), length_push events (past (next_op rest) 0))

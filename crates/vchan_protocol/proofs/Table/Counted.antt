@@ -319,14 +319,14 @@ counted_call e Retire = counted_retire e e e.state
 -- ---- along a trail
 
 -- what is counted stays so along the events
-pub Counted-Leads : (e : Standing) (out into : ℕ) (now : Standing) (s l : ℕ) (plan : Plan) (events : List PastEvent) (rest : Plan) → Counted e out into now s l plan → Leads plan events rest →
+pub Counted_Leads : (e : Standing) (out into : ℕ) (now : Standing) (s l : ℕ) (plan : Plan) (events : List PastEvent) (rest : Plan) → Counted e out into now s l plan → Leads plan events rest →
     Counted e out into (standing_along now events) (s + count_stored events) (l + length (bytes_loaded events)) rest
 unfolding Counted
-Counted-Leads e out into now s l plan [] rest w led =
+Counted_Leads e out into now s l plan [] rest w led =
     rw (add-zero, add-zero) (subst (λ (p : Plan). Counted e out into now s l p) led w)
-Counted-Leads e out into now s l (answers answer) (event ∷ events) rest w led = absurd led
-Counted-Leads e out into now s l (does op next) (event ∷ events) rest w led =
-    moved_on e out into (standing_along (standing_after now event.op) events) s l event.op event.taken events rest (Counted-Leads e out into (standing_after now event.op) (stored_then event.op s) (loaded_then event.op l) (next event.taken) events rest
+Counted_Leads e out into now s l (answers answer) (event ∷ events) rest w led = absurd led
+Counted_Leads e out into now s l (does op next) (event ∷ events) rest w led =
+    moved_on e out into (standing_along (standing_after now event.op) events) s l event.op event.taken events rest (Counted_Leads e out into (standing_after now event.op) (stored_then event.op s) (loaded_then event.op l) (next event.taken) events rest
     (subst (λ (o : Op). Counted e out into (standing_after now o) (stored_then o s) (loaded_then o l) (next event.taken)) (sym led.0) (w.1 event.taken)) led.1)
   where
     moved_on : (e : Standing) (out into : ℕ) (now : Standing) (s l : ℕ) (op : Op) (taken : ℕ) (events : List PastEvent) (rest : Plan) →

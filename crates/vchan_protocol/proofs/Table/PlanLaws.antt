@@ -15,44 +15,44 @@ one_less i k h = omega arith
 none_left : (i k : ℕ) → k ≤ i → k - i ≡ zero
 none_left i k h = omega arith
 
-pub put_bytes-more : (e : Standing) (i k : ℕ) (next : Plan) → i < k →
+pub put_bytes_more : (e : Standing) (i k : ℕ) (next : Plan) → i < k →
     put_bytes e i (k - i) next ≡ does (StoreByte (RingByte (written_ring e.role) (place (e.prod + i) (write_order e))) i) (λ _. put_bytes e (i + 1) (k - (i + 1)) next)
-put_bytes-more e i k next h = ap (λ (n : ℕ). put_bytes e i n next) (one_less i k h)
+put_bytes_more e i k next h = ap (λ (n : ℕ). put_bytes e i n next) (one_less i k h)
 
-pub put_bytes-end : (e : Standing) (i k : ℕ) (next : Plan) → k ≤ i → put_bytes e i (k - i) next ≡ next
-put_bytes-end e i k next h = ap (λ (n : ℕ). put_bytes e i n next) (none_left i k h)
+pub put_bytes_end : (e : Standing) (i k : ℕ) (next : Plan) → k ≤ i → put_bytes e i (k - i) next ≡ next
+put_bytes_end e i k next h = ap (λ (n : ℕ). put_bytes e i n next) (none_left i k h)
 
-pub take_bytes-more : (e : Standing) (i k : ℕ) (next : Plan) → i < k →
+pub take_bytes_more : (e : Standing) (i k : ℕ) (next : Plan) → i < k →
     take_bytes e i (k - i) next ≡ does (LoadByte (RingByte (read_ring e.role) (place (e.cons + i) (read_order e))) i) (λ _. take_bytes e (i + 1) (k - (i + 1)) next)
-take_bytes-more e i k next h = ap (λ (n : ℕ). take_bytes e i n next) (one_less i k h)
+take_bytes_more e i k next h = ap (λ (n : ℕ). take_bytes e i n next) (one_less i k h)
 
-pub take_bytes-end : (e : Standing) (i k : ℕ) (next : Plan) → k ≤ i → take_bytes e i (k - i) next ≡ next
-take_bytes-end e i k next h = ap (λ (n : ℕ). take_bytes e i n next) (none_left i k h)
+pub take_bytes_end : (e : Standing) (i k : ℕ) (next : Plan) → k ≤ i → take_bytes e i (k - i) next ≡ next
+take_bytes_end e i k next h = ap (λ (n : ℕ). take_bytes e i n next) (none_left i k h)
 
-pub ruleset bytes_laws = (put_bytes-more, put_bytes-end, take_bytes-more, take_bytes-end)
+pub ruleset bytes_laws = (put_bytes_more, put_bytes_end, take_bytes_more, take_bytes_end)
 
 -- each phase has an event left
-pub GoesOn-put_bytes : (e : Standing) (i k : ℕ) (op : Op) (next : ℕ → Plan) → GoesOn (put_bytes e i k (does op next))
-GoesOn-put_bytes e i zero op next = tt
-GoesOn-put_bytes e i (suc k) op next = tt
+pub GoesOn_put_bytes : (e : Standing) (i k : ℕ) (op : Op) (next : ℕ → Plan) → GoesOn (put_bytes e i k (does op next))
+GoesOn_put_bytes e i zero op next = tt
+GoesOn_put_bytes e i (suc k) op next = tt
 
-pub GoesOn-take_bytes : (e : Standing) (i k : ℕ) (op : Op) (next : ℕ → Plan) → GoesOn (take_bytes e i k (does op next))
-GoesOn-take_bytes e i zero op next = tt
-GoesOn-take_bytes e i (suc k) op next = tt
+pub GoesOn_take_bytes : (e : Standing) (i k : ℕ) (op : Op) (next : ℕ → Plan) → GoesOn (take_bytes e i k (does op next))
+GoesOn_take_bytes e i zero op next = tt
+GoesOn_take_bytes e i (suc k) op next = tt
 
 -- one event more
-pub Leads-more : (plan : Plan) (events : List PastEvent) (rest : Plan) (value : ℕ) → GoesOn rest → Leads plan events rest →
+pub Leads_more : (plan : Plan) (events : List PastEvent) (rest : Plan) (value : ℕ) → GoesOn rest → Leads plan events rest →
     Leads plan (events ++ past (next_op rest) value ∷ []) (after rest value)
-Leads-more plan [] rest value more led = subst (λ (p : Plan). Leads p (past (next_op rest) value ∷ []) (after rest value)) (sym led) (last rest more)
+Leads_more plan [] rest value more led = subst (λ (p : Plan). Leads p (past (next_op rest) value ∷ []) (after rest value)) (sym led) (last rest more)
   where
     last : (p : Plan) → GoesOn p → Leads p (past (next_op p) value ∷ []) (after p value)
     last (answers answer) h = absurd h
     last (does op next) h = (refl, refl)
-Leads-more (answers answer) (event ∷ events) rest value more led = absurd led
-Leads-more (does op next) (event ∷ events) rest value more led = (led.0, Leads-more (next event.taken) events rest value more led.1)
+Leads_more (answers answer) (event ∷ events) rest value more led = absurd led
+Leads_more (does op next) (event ∷ events) rest value more led = (led.0, Leads_more (next event.taken) events rest value more led.1)
 
 -- what a trail leads to is what it leaves
-pub rest_after-Leads : (plan : Plan) (events : List PastEvent) (rest : Plan) → Leads plan events rest → rest_after plan events ≡ rest
-rest_after-Leads plan [] rest led = led
-rest_after-Leads (answers answer) (event ∷ events) rest led = absurd led
-rest_after-Leads (does op next) (event ∷ events) rest led = rest_after-Leads (next event.taken) events rest led.1
+pub rest_after_Leads : (plan : Plan) (events : List PastEvent) (rest : Plan) → Leads plan events rest → rest_after plan events ≡ rest
+rest_after_Leads plan [] rest led = led
+rest_after_Leads (answers answer) (event ∷ events) rest led = absurd led
+rest_after_Leads (does op next) (event ∷ events) rest led = rest_after_Leads (next event.taken) events rest led.1

@@ -370,20 +370,20 @@ sound_call e Retire = sound_retire e empty_summary e.state
 -- ---- along a trail
 
 -- what leads to a plan that goes on goes on itself
-pub goes_on-Leads : (plan : Plan) (events : List PastEvent) (rest : Plan) → Leads plan events rest → GoesOn rest → GoesOn plan
-goes_on-Leads plan [] rest led more = subst GoesOn (sym led) more
-goes_on-Leads (answers answer) (event ∷ events) rest led more = absurd led
-goes_on-Leads (does op next) (event ∷ events) rest led more = tt
+pub goes_on_Leads : (plan : Plan) (events : List PastEvent) (rest : Plan) → Leads plan events rest → GoesOn rest → GoesOn plan
+goes_on_Leads plan [] rest led more = subst GoesOn (sym led) more
+goes_on_Leads (answers answer) (event ∷ events) rest led more = absurd led
+goes_on_Leads (does op next) (event ∷ events) rest led more = tt
 
 -- what is sound stays so along the events
-pub Sound-Leads : (e : Standing) (n : TrailSummary) (plan : Plan) (events : List PastEvent) (rest : Plan) → Sound e n plan → Leads plan events rest → GoesOn rest →
+pub Sound_Leads : (e : Standing) (n : TrailSummary) (plan : Plan) (events : List PastEvent) (rest : Plan) → Sound e n plan → Leads plan events rest → GoesOn rest →
     Sound e (summary_along e.role n events) rest
 unfolding Sound
-Sound-Leads e n plan [] rest s led more = subst (λ (p : Plan). Sound e n p) led s
-Sound-Leads e n (answers answer) (event ∷ events) rest s led more = absurd led
-Sound-Leads e n (does op next) (event ∷ events) rest s led more =
-    Sound-Leads e (summary_after e.role n event.op event.taken) (next event.taken) events rest
-    (subst (λ (o : Op). Sound e (summary_after e.role n o event.taken) (next event.taken)) (sym led.0) (s.1 event.taken (goes_on-Leads (next event.taken) events rest led.1 more)).1) led.1 more
+Sound_Leads e n plan [] rest s led more = subst (λ (p : Plan). Sound e n p) led s
+Sound_Leads e n (answers answer) (event ∷ events) rest s led more = absurd led
+Sound_Leads e n (does op next) (event ∷ events) rest s led more =
+    Sound_Leads e (summary_after e.role n event.op event.taken) (next event.taken) events rest
+    (subst (λ (o : Op). Sound e (summary_after e.role n o event.taken) (next event.taken)) (sym led.0) (s.1 event.taken (goes_on_Leads (next event.taken) events rest led.1 more)).1) led.1 more
 
 -- the next event gives what it owes
 pub owes_sound : (e : Standing) (n : TrailSummary) (plan : Plan) → Sound e n plan → GoesOn plan → OwesSound e n (next_op plan)

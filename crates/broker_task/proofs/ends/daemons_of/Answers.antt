@@ -8,7 +8,7 @@ use Rattle.vchan_rule.specs.Seated.{SeatedEnd}
 use Rattle.broker_task.specs.declared.daemon.Daemon.{Daemon}
 use Rattle.broker_task.specs.Given.{IsNewClient}
 use Rattle.broker_task.specs.Starting.{IsStarted, AreStarted}
-use Rattle.broker_task.proofs.StartLaws.{started-push}
+use Rattle.broker_task.proofs.StartLaws.{started_push}
 use Rattle.broker_task.proofs.ends.daemons_of.Goals as goal
 
 pub loop-control-preserved : goal.loop-control-preserved
@@ -29,7 +29,7 @@ loop-control-preserved c =
       given = c.new.ensures.given;
     } in
     let place : n + 1 ≡ 1 + length c.loop-control.daemons.items = omega (arith, inv.count) in
-    let pushed = started-push 1 (take n awaited) c.loop-control.yielded c.loop-control.daemons.items (get_or awaited n 0) c.in-Some.control c.new.result inv.started
+    let pushed = started_push 1 (take n awaited) c.loop-control.yielded c.loop-control.daemons.items (get_or awaited n 0) c.in-Some.control c.new.result inv.started
     (subst (λ (k : ℕ). IsStarted k (get_or awaited n 0) c.in-Some.control c.new.result) place is) in
     record {
       left = grind (arith, common_steps);

@@ -3,7 +3,7 @@ use Rattle.std.proofs.Common.{◌≡◌, List, [], ◌∷◌, ◌++◌, subst, s
 use Rattle.std.specs.Vec.Iter.{into_iter_items}
 use Rattle.std.proofs.lemmas.Grind.{common_steps}
 use Rattle.std.specs.List.{AllByRecursion as Each, AllZip as EachPair}
-use Rattle.list_laws.proofs.Pairs.{pairs-push}
+use Rattle.list_laws.proofs.Pairs.{pairs_push}
 use Rattle.task_duties.specs.declared.ends.RetiredEnd.{RetiredEnd}
 use Rattle.broker_task.specs.declared.daemon.Daemon.{Daemon}
 use Rattle.broker_task.specs.Lines.{IsLine}
@@ -17,5 +17,5 @@ loop-daemon-preserved c =
       room = grind (arith, common_steps);
       lines = (subst (λ (l : List Daemon). Each (λ x. IsLine x.domain x) l) rest c.loop-daemon.invariant.lines).1;
       pairs = subst (λ (ends : List RetiredEnd). EachPair IsRetiredOf (c.loop-daemon.yielded ++ c.in-Some.daemon ∷ []) ends) (sym c.push_reserved.ensures.items)
-          (pairs-push IsRetiredOf c.loop-daemon.yielded c.loop-daemon.ends.items c.in-Some.daemon c.retire.result c.loop-daemon.invariant.pairs c.retire.ensures);
+          (pairs_push IsRetiredOf c.loop-daemon.yielded c.loop-daemon.ends.items c.in-Some.daemon c.retire.result c.loop-daemon.invariant.pairs c.retire.ensures);
     }

@@ -2,15 +2,15 @@ use Rattle.std.proofs.Common.{◌≡◌, ◌∙◌, ◌+◌, ◌<◌, ◌++◌, 
 use Rattle.std.proofs.lemmas.Grind.{take_at_read}
 use Rattle.std.proofs.lemmas.List.{length-map, length-take-le, map-append, take-append-drop}
 use Rattle.std.specs.List.{AllZip as EachPair}
-use Rattle.list_laws.proofs.Pairs.{pairs-push}
+use Rattle.list_laws.proofs.Pairs.{pairs_push}
 use Rattle.scenario_file.specs.declared.scenario.CallPlan.{CallPlan}
 use Rattle.call_broker.specs.Domains.{place_of}
 use Rattle.call_queue.specs.Index.{HasTargets, IsFirst}
-use Rattle.call_queue.proofs.IndexLaws.{no-targets, place-found}
+use Rattle.call_queue.proofs.IndexLaws.{no_targets, place_found}
 use Rattle.call_queue.proofs.index.first_places.Goals as goal
 
 pub loop-call-init : goal.loop-call-init
-loop-call-init c = record { long = ap length c.in_ok-places.ensures.items; noted = no-targets c.new-targets.result c.new-targets.ensures.empty; first = rw c.in_ok-places.ensures.items tt }
+loop-call-init c = record { long = ap length c.in_ok-places.ensures.items; noted = no_targets c.new-targets.result c.new-targets.ensures.empty; first = rw c.in_ok-places.ensures.items tt }
 
 pub loop-call-preserved : goal.loop-call-preserved
 loop-call-preserved c =
@@ -31,8 +31,8 @@ loop-call-preserved c =
     let place : length (names before) ≡ c.len.result = omega (arith, length-map before (λ (x : CallPlan). x.to), length-take-le i calls (omega (arith, less)), was.long, c.len.ensures, c.loop-call.places.ok.0) in
     let put : HasTargets (names before ++ call.to ∷ []) c.first_place.new.targets × (place_of (names before ++ call.to ∷ []) call.to ≡ Some first) =
     subst (λ n. HasTargets (names before ++ n ∷ []) c.first_place.new.targets × (place_of (names before ++ n ∷ []) n ≡ Some first)) c.bytes.ensures.bytes (c.in_ok-first.ensures (names before) place was.noted) in
-    let is_first : IsFirst (names calls) call.to first = subst (λ l. place_of l call.to ≡ Some first) whole (place-found (names before ++ call.to ∷ []) (names behind) call.to first put.1) in
-    let pairs : EachPair (IsFirst (names calls)) (names before ++ call.to ∷ []) (places ++ first ∷ []) = pairs-push (IsFirst (names calls)) (names before) places call.to first was.first is_first in
+    let is_first : IsFirst (names calls) call.to first = subst (λ l. place_of l call.to ≡ Some first) whole (place_found (names before ++ call.to ∷ []) (names behind) call.to first put.1) in
+    let pairs : EachPair (IsFirst (names calls)) (names before ++ call.to ∷ []) (places ++ first ∷ []) = pairs_push (IsFirst (names calls)) (names before) places call.to first was.first is_first in
     record {
       long = omega (arith, ap length c.in_ok-push.ensures.items, length-append places (first ∷ []), was.long);
       noted = subst (λ l. HasTargets l c.first_place.new.targets) (sym so_far) put.0;

@@ -6,7 +6,7 @@ use Rattle.std.proofs.Math.Seq.{drop-cons}
 use Rattle.std.specs.List.{AllByRecursion as Each}
 use Rattle.task_duties.specs.Words.{ident_of}
 use Rattle.call_queue.specs.Index.{place_in}
-use Rattle.call_queue.proofs.IndexLaws.{IsFilled, empty-places, filled-more, filled-none}
+use Rattle.call_queue.proofs.IndexLaws.{IsFilled, empty_places, filled_more, filled_none}
 use Rattle.call_queue.proofs.index.index_of.Goals as goal
 
 pub loop-noted-init : goal.loop-noted-init
@@ -14,7 +14,7 @@ loop-noted-init c =
     let calls = c.args.calls.now in
     record {
       filled = subst (λ left. IsFilled (place_in c.new-index.result) (map (λ x. ident_of x.number) left) (map (λ x. ident_of x.number) calls)) (sym (take_all (length calls - 0) calls (omega arith)))
-          (filled-none (place_in c.new-index.result) (map (λ x. ident_of x.number) calls) (empty-places c.new-index.result c.new-index.ensures.empty));
+          (filled_none (place_in c.new-index.result) (map (λ x. ident_of x.number) calls) (empty_places c.new-index.result c.new-index.ensures.empty));
       small = subst (Each (λ x. x.number < 2 ^ 32)) (sym (drop_all (length calls - 0) calls (omega arith))) tt;
     }
 
@@ -36,7 +36,7 @@ loop-noted-preserved c =
     let small : Each (λ x. x.number < 2 ^ 32) (drop (suc next) calls) = let same : length calls - c.loop-noted.noted ≡ suc next = omega arith in subst (λ n. Each (λ x. x.number < 2 ^ 32) (drop n calls)) same was.small in
     let number : (get_or calls (length calls - 1 - c.loop-noted.noted) call).number ≡ call.number = ap (λ n. (get_or calls n call).number) at ∙ ap (λ x. x.number) here in
     record {
-      filled = filled-more (place_in c.loop-noted.index) (place_in c.note.new.index) (map (λ x. ident_of x.number) (take (next + 1) calls)) (map (λ x. ident_of x.number) (take next calls)) (map (λ x. ident_of x.number) calls) (ident_of call.number)
+      filled = filled_more (place_in c.loop-noted.index) (place_in c.note.new.index) (map (λ x. ident_of x.number) (take (next + 1) calls)) (map (λ x. ident_of x.number) (take next calls)) (map (λ x. ident_of x.number) calls) (ident_of call.number)
           (ap (map (λ x. ident_of x.number)) split ∙ map-append (λ x. ident_of x.number) (take next calls) (call ∷ []))
           (λ ident. c.in_ok-note.ensures.notes ident
           ∙ (ap (λ n. if bytes_eq ident (ident_of n) then Some (length calls - 1 - c.loop-noted.noted) else place_in c.loop-noted.index ident) number

@@ -2,7 +2,7 @@ use Rattle.std.proofs.Common.{◌≡◌, ◌∷◌, [], ap, sym, subst, length, 
 use Rattle.std.specs.Vec.Iter.{into_iter_items}
 use Rattle.std.proofs.lemmas.Grind.{common_steps}
 use Rattle.task_duties.specs.GivenEnds.{all_retired, retired_at}
-use Rattle.data_slots.proofs.FinishLaws.{AreRetiring, one-more, retired-more, retired-back}
+use Rattle.data_slots.proofs.FinishLaws.{AreRetiring, one_more, retired_more, retired_back}
 use Rattle.data_slots.proofs.finish.give_up_all.Goals as goal
 
 pub loop-slot-preserved : goal.loop-slot-preserved
@@ -19,8 +19,8 @@ loop-slot-preserved c =
     record {
       can_next = tt;
       is_finite = tt;
-      retiring = subst (λ es. AreRetiring first all rest es) (sym (retired-more retired c.push_reserved-in-loop-slot.new.self.items x items))
-          (one-more first all rest slot (all_retired retired) (retired_at x) c.give_up.ensures.held c.give_up.ensures.honest (subst (λ rs. AreRetiring first all rs (all_retired retired)) steps known.retiring));
+      retiring = subst (λ es. AreRetiring first all rest es) (sym (retired_more retired c.push_reserved-in-loop-slot.new.self.items x items))
+          (one_more first all rest slot (all_retired retired) (retired_at x) c.give_up.ensures.held c.give_up.ensures.honest (subst (λ rs. AreRetiring first all rs (all_retired retired)) steps known.retiring));
       room = omega (arith, known.room, ap length steps, ap length items, length-append retired (x ∷ []), c.push_reserved-in-loop-slot.ensures.capacity);
     }
 
@@ -30,4 +30,4 @@ returns c =
     let all = c.args.slots.items in
     let retired = all_retired c.loop-slot.retired.items in
     let over : into_iter_items c.loop-slot.slot-iterator ≡ [] = grind (arith, common_steps) in
-    retired-back first all retired (subst (λ rs. AreRetiring first all rs retired) over c.loop-slot.invariant.retiring)
+    retired_back first all retired (subst (λ rs. AreRetiring first all rs retired) over c.loop-slot.invariant.retiring)

@@ -3,7 +3,7 @@ use Rattle.std.specs.Prelude.{Some}
 use Rattle.std.proofs.lemmas.List.{map-append, map_more}
 use Rattle.std.proofs.lemmas.Option.{slice_get_read}
 use Rattle.data_slots.specs.Finished.{served_at}
-use Rattle.data_slots.proofs.FinishLaws.{later-servings, same-serving, has-serving}
+use Rattle.data_slots.proofs.FinishLaws.{later_servings, same_serving, has_serving}
 use Rattle.data_slots.proofs.finish.served_ends.Goals as goal
 
 pub served_end-requires : goal.served_end-requires
@@ -11,7 +11,7 @@ served_end-requires c =
     let served = c.args.served.now in
     let less : c.loop-note.note-index < length served = omega arith in
     let here = slice_get_read served (length served) c.loop-note.note-index c.note-item.result refl less c.note-item.is in
-    has-serving c.args.reports.now c.loop-note.reports served c.loop-note.note-index c.note-item.result c.requires here c.loop-note.invariant.later
+    has_serving c.args.reports.now c.loop-note.reports served c.loop-note.note-index c.note-item.result c.requires here c.loop-note.invariant.later
 
 pub loop-note-preserved : goal.loop-note-preserved
 loop-note-preserved c =
@@ -23,7 +23,7 @@ loop-note-preserved c =
     let here = slice_get_read served (length served) k note refl less c.note-item.is in
     record {
       done = ap (map Some) c.in_ok-push.ensures.items ∙ (map-append Some c.loop-note.done.items (c.served_end.result ∷ []) ∙ (ap (λ ds. ds ++ Some c.served_end.result ∷ []) known.done
-          ∙ (ap (λ o. map (served_at c.args.reports.now) (take k served) ++ o ∷ []) (sym c.served_end.ensures.end ∙ (same-serving c.args.reports.now c.loop-note.reports served k note here known.later ∙ ap (served_at c.args.reports.now) c.note-item.is))
+          ∙ (ap (λ o. map (served_at c.args.reports.now) (take k served) ++ o ∷ []) (sym c.served_end.ensures.end ∙ (same_serving c.args.reports.now c.loop-note.reports served k note here known.later ∙ ap (served_at c.args.reports.now) c.note-item.is))
           ∙ sym (map_more (served_at c.args.reports.now) served k note less))));
-      later = later-servings c.args.reports.now c.loop-note.reports c.served_end.new.reports served k note c.requires here known.later c.served_end.ensures.others;
+      later = later_servings c.args.reports.now c.loop-note.reports c.served_end.new.reports served k note c.requires here known.later c.served_end.ensures.others;
     }

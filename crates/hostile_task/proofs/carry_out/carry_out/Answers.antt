@@ -1,7 +1,7 @@
 -- Each act keeps what is known of all pages.
 use Rattle.std.proofs.Common.{◌≡◌, ℕ, ◌+◌, ◌<◌, ◌≤◌, List, false, true, nat_le, refl, sym, subst, ap, ◌∙◌, arith}
 use Rattle.std.proofs.lemmas.Bool.Decides.{nat_tests}
-use Rattle.list_laws.proofs.Each.{each-weaker}
+use Rattle.list_laws.proofs.Each.{each_weaker}
 use Rattle.vchan_protocol.specs.declared.op.PastEvent.{PastEvent}
 use Rattle.scenario_file.specs.declared.acts.Act.{Act}
 use Rattle.scenario_file.specs.declared.acts.Act.TheVariants.{Poke, Scribble, Signal, Rest}
@@ -54,7 +54,7 @@ returns-in-Signal-clause-way c =
     let stores = λ (place : PagePlace). stores_of (plan_of c.args.domain.now (places_in c.args.pages.now)) place act in
     let after : AreAfter stores c.args.pages.now c.signal.new.self = c.signal.ensures c.args.domain.now.number (
       c.requires.way.so_far.0.role,
-      each-weaker (IsPageSoFar (plan_of c.args.domain.now (places_in c.args.pages.now)) c.args.progress.now) (λ p. p.end.side.role ≡ role_at c.args.domain.now.number p.place) (λ p so_far. so_far.role) c.args.pages.now.payload.items c.requires.way.so_far.1,
+      each_weaker (IsPageSoFar (plan_of c.args.domain.now (places_in c.args.pages.now)) c.args.progress.now) (λ p. p.end.side.role ≡ role_at c.args.domain.now.number p.place) (λ p so_far. so_far.role) c.args.pages.now.payload.items c.requires.way.so_far.1,
     ) in
     let at = act_at c.args.domain.now.acts c.list.result.now c.args.progress.now.acts c.index-list-progress.result act c.list.ensures.list c.requires.left c.index-list-progress.is c.in-Signal.is in
     way_stores c.args.domain.now act c.args.pages.now c.signal.new.self c.args.progress.now c.end_turn-in-Signal.new.self c.args.spelled.now.items c.requires.way at c.requires.left refl after c.end_turn-in-Signal.ensures
@@ -65,7 +65,7 @@ returns-in-Signal-clause-same c =
     let stores = λ (place : PagePlace). stores_of (plan_of c.args.domain.now (places_in c.args.pages.now)) place act in
     let after : AreAfter stores c.args.pages.now c.signal.new.self = c.signal.ensures c.args.domain.now.number (
       c.requires.way.so_far.0.role,
-      each-weaker (IsPageSoFar (plan_of c.args.domain.now (places_in c.args.pages.now)) c.args.progress.now) (λ p. p.end.side.role ≡ role_at c.args.domain.now.number p.place) (λ p so_far. so_far.role) c.args.pages.now.payload.items c.requires.way.so_far.1,
+      each_weaker (IsPageSoFar (plan_of c.args.domain.now (places_in c.args.pages.now)) c.args.progress.now) (λ p. p.end.side.role ≡ role_at c.args.domain.now.number p.place) (λ p so_far. so_far.role) c.args.pages.now.payload.items c.requires.way.so_far.1,
     ) in
     are_same_after stores c.args.pages.now c.signal.new.self after
 

@@ -1,6 +1,6 @@
 use Rattle.std.proofs.Common.{arith}
 use Rattle.ring_words.proofs.ImageLaws.{lay_ring, lay_no_ring}
-use Rattle.ring_words.proofs.RingLaws.{size-within}
+use Rattle.ring_words.proofs.RingLaws.{size_within}
 use Rattle.ring_words.specs.Page.{order_of}
 use Rattle.ring_words.proofs.image.put_ring.Goals as goal
 
@@ -10,7 +10,7 @@ returns-in_default c =
 
 pub word-first-requires : goal.word-first-requires
 word-first-requires c =
-    omega (arith, size-within (order_of c.new-layout.result.orders c.args.ring))
+    omega (arith, size_within (order_of c.new-layout.result.orders c.args.ring))
 
 pub returns : goal.returns
 returns c =

@@ -1,6 +1,6 @@
 use Rattle.std.proofs.Common.{◌≡◌, ◌∙◌, ap, arith, length}
 use Rattle.ring_words.specs.Image.{page_shown}
-use Rattle.ring_words.proofs.ImageLaws.{length-page_shown, list_shown, page_is_shown, page_shows_again, page_shows_around}
+use Rattle.ring_words.proofs.ImageLaws.{length_page_shown, list_shown, page_is_shown, page_shows_again, page_shows_around}
 use Rattle.ring_words.proofs.image.words_of_image.Goals as goal
 
 -- the words are the shown page
@@ -10,7 +10,7 @@ is_shown c =
 
 pub of-requires : goal.of-requires
 of-requires c =
-    c.extend_ring-2.new.list.ok.0 ∙ ap length (list_shown c.args.image.now c.in_ok-orders.orders c.in_ok-list.ensures.items c.header_shown.ensures c.in_ok-extend_from_slice.ensures.items c.in_ok-extend_ring.ensures c.in_ok-extend_ring-2.ensures) ∙ length-page_shown c.args.image.now c.in_ok-orders.orders (omega arith)
+    c.extend_ring-2.new.list.ok.0 ∙ ap length (list_shown c.args.image.now c.in_ok-orders.orders c.in_ok-list.ensures.items c.header_shown.ensures c.in_ok-extend_from_slice.ensures.items c.in_ok-extend_ring.ensures c.in_ok-extend_ring-2.ensures) ∙ length_page_shown c.args.image.now c.in_ok-orders.orders (omega arith)
 
 pub returns-clause-words : goal.returns-clause-words
 returns-clause-words c = is_shown c

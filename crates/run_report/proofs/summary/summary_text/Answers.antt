@@ -1,6 +1,6 @@
 use Rattle.std.proofs.Common.{◌≡◌, ◌≤◌, arith, refl, sym, subst, ap, ◌∙◌, [], ◌∷◌, ◌++◌, length, rules}
 use Rattle.run_report.specs.Summary.{done_calls, done_of, counted, totals, sums_text}
-use Rattle.run_report.proofs.SumLaws.{either-over, none-left, sums-all, sums-on}
+use Rattle.run_report.proofs.SumLaws.{either_over, none_left, sums_all, sums_on}
 use Rattle.run_report.specs.Summing.{IsSumming}
 use Rattle.run_report.proofs.summary.summary_text.Goals as goal
 
@@ -30,15 +30,15 @@ loop-call-preserved c =
     let counted : c.count.new.self ≡ counted (done_of (length c.in-Some.call.now.stdin) c.in-Some.line.now.result) c.loop-call.sums =
     c.count.ensures ∙ ap (λ bytes. counted (done_of (length bytes) c.in-Some.line.now.result) c.loop-call.sums) c.slice.ensures in
     subst (λ t. IsSumming t c.next.new.self.a.rest.now c.next.new.self.b.rest.now all most) (sym counted)
-    (sums-on c.loop-call.sums c.in-Some.call.now c.next.new.self.a.rest.now c.in-Some.line.now c.next.new.self.b.rest.now all most on)
+    (sums_on c.loop-call.sums c.in-Some.call.now c.next.new.self.a.rest.now c.in-Some.line.now c.next.new.self.b.rest.now all most on)
 
 pub returns : goal.returns
 returns c =
     let over : done_calls c.loop-call.call-iterator.a.rest.now c.loop-call.call-iterator.b.rest.now ≡ [] =
-    none-left c.loop-call.call-iterator.a.rest.now c.loop-call.call-iterator.b.rest.now (either-over c.in-None.ensures.steps) in
+    none_left c.loop-call.call-iterator.a.rest.now c.loop-call.call-iterator.b.rest.now (either_over c.in-None.ensures.steps) in
     let counted : c.len.result ≡ length c.args.report.now.calls = search (rules, c.len.ensures, c.report.view_is) in
     let sums : c.loop-call.sums ≡ totals (done_calls c.args.scenario.now.calls c.args.report.now.calls) =
-    sums-all c.loop-call.sums c.loop-call.call-iterator.a.rest.now c.loop-call.call-iterator.b.rest.now (done_calls c.args.scenario.now.calls c.args.report.now.calls) (length c.args.scenario.now.calls) c.loop-call.invariant over in
+    sums_all c.loop-call.sums c.loop-call.call-iterator.a.rest.now c.loop-call.call-iterator.b.rest.now (done_calls c.args.scenario.now.calls c.args.report.now.calls) (length c.args.scenario.now.calls) c.loop-call.invariant over in
     subst (λ t. c.push_sums.new.out.items ≡ sums_text (length c.args.report.now.calls) t) sums
     (subst (λ l. c.push_sums.new.out.items ≡ l ++ sums_text (length c.args.report.now.calls) c.loop-call.sums) c.new-text.ensures.items
     (subst (λ n. c.push_sums.new.out.items ≡ c.new-text.result.items ++ sums_text n c.loop-call.sums) counted c.in_ok-push_sums.ensures))

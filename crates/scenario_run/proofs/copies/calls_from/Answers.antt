@@ -4,33 +4,33 @@ use Rattle.std.proofs.lemmas.Bool.Decides.{nat_tests}
 use Rattle.std.proofs.lemmas.List.{append-nil}
 use Rattle.std.proofs.lemmas.List.Elements.{filter-append}
 use Rattle.std.proofs.lemmas.Option.{slice_get_read}
-use Rattle.list_laws.proofs.Places.{take-next}
+use Rattle.list_laws.proofs.Places.{take_next}
 use Rattle.scenario_file.specs.Scenario.{Plan as Scenario}
 use Rattle.scenario_file.specs.declared.scenario.CallPlan.{CallPlan}
 use Rattle.scenario_run.proofs.copies.calls_from.Goals as goal
 use Rattle.scenario_run.proofs.copies.calls_from.Goals.{then-call-from+in_ok-copy_of_call+in_ok-push, else-call-from}
 
-one-kept : (p : CallPlan → Bool) (item : CallPlan) → p item ≡ true → filter p (item ∷ []) ≡ item ∷ []
-one-kept p item is = rw is refl
+one_kept : (p : CallPlan → Bool) (item : CallPlan) → p item ≡ true → filter p (item ∷ []) ≡ item ∷ []
+one_kept p item is = rw is refl
 
-one-left : (p : CallPlan → Bool) (item : CallPlan) → p item ≡ false → filter p (item ∷ []) ≡ []
-one-left p item is = rw is refl
+one_left : (p : CallPlan → Bool) (item : CallPlan) → p item ≡ false → filter p (item ∷ []) ≡ []
+one_left p item is = rw is refl
 
-one-more : (p : CallPlan → Bool) (items : List CallPlan) (k : ℕ) (item : CallPlan) → slice_get items k ≡ Some item → filter p (take (k + 1) items) ≡ filter p (take k items) ++ filter p (item ∷ [])
-one-more p items k item at = ap (filter p) (take-next items k item at) ∙ filter-append p (take k items) (item ∷ [])
+one_more : (p : CallPlan → Bool) (items : List CallPlan) (k : ℕ) (item : CallPlan) → slice_get items k ≡ Some item → filter p (take (k + 1) items) ≡ filter p (take k items) ++ filter p (item ∷ [])
+one_more p items k item at = ap (filter p) (take_next items k item at) ∙ filter-append p (take k items) (item ∷ [])
 
 -- a call of the domain, and one of another
 kept : (from : ℕ) (items : List CallPlan) (k : ℕ) (item : CallPlan) → slice_get items k ≡ Some item → (own new : List CallPlan) → own ≡ filter (λ call. call.from == from) (take k items) → (item.from == from) ≡ true
     → new ≡ own ++ item ∷ [] → new ≡ filter (λ call. call.from == from) (take (k + 1) items)
 kept from items k item at own new was is grown =
     let p : CallPlan → Bool = λ call. call.from == from in
-    grown ∙ (ap (λ l. l ++ item ∷ []) was ∙ (ap (λ l. filter p (take k items) ++ l) (sym (one-kept p item is)) ∙ sym (one-more p items k item at)))
+    grown ∙ (ap (λ l. l ++ item ∷ []) was ∙ (ap (λ l. filter p (take k items) ++ l) (sym (one_kept p item is)) ∙ sym (one_more p items k item at)))
 
 left : (from : ℕ) (items : List CallPlan) (k : ℕ) (item : CallPlan) → slice_get items k ≡ Some item → (own new : List CallPlan) → own ≡ filter (λ call. call.from == from) (take k items) → (item.from == from) ≡ false
     → new ≡ own → new ≡ filter (λ call. call.from == from) (take (k + 1) items)
 left from items k item at own new was is same =
     let p : CallPlan → Bool = λ call. call.from == from in
-    same ∙ (was ∙ (sym (append-nil (filter p (take k items))) ∙ (ap (λ l. filter p (take k items) ++ l) (sym (one-left p item is)) ∙ sym (one-more p items k item at))))
+    same ∙ (was ∙ (sym (append-nil (filter p (take k items))) ∙ (ap (λ l. filter p (take k items) ++ l) (sym (one_left p item is)) ∙ sym (one_more p items k item at))))
 
 pub loop-call-preserved : goal.loop-call-preserved
 loop-call-preserved c =

@@ -6,7 +6,7 @@ use Rattle.vchan_rule.specs.Seated.{SeatedEnd, view}
 use Rattle.task_duties.specs.declared.place.PagePlace.TheVariants.{Control}
 use Rattle.task_duties.specs.TaskOwes.{broker_ends}
 use Rattle.broker_task.specs.Given.{IsNewClient}
-use Rattle.scenario_run.proofs.UnmadeLaws.{IsGivingBack, giving-first, giving-none, giving-on}
+use Rattle.scenario_run.proofs.UnmadeLaws.{IsGivingBack, giving_first, giving_none, giving_on}
 use Rattle.scenario_run.proofs.unmade.retire_controls.Goals as goal
 
 pub loop-control-init : goal.loop-control-init
@@ -18,7 +18,7 @@ loop-control-init c =
       count = omega (arith, count);
       room = omega (arith, count, none, c.requires.room);
       giving = subst (λ (l : List SeatedEnd). IsGivingBack (broker_ends 1 (map view c.args.controls.items)) (broker_ends 1 (map view l)) c.args.retired.items) (sym all)
-          (giving-first (broker_ends 1 (map view c.args.controls.items)) c.args.retired.items c.requires.empty);
+          (giving_first (broker_ends 1 (map view c.args.controls.items)) c.args.retired.items c.requires.empty);
     }
 
 pub loop-control-preserved : goal.loop-control-preserved
@@ -29,7 +29,7 @@ loop-control-preserved c =
       unused = (subst (λ (l : List SeatedEnd). Each IsNewClient l) rest c.loop-control.invariant.unused).1;
       count = grind (arith, common_steps);
       room = grind (arith, common_steps);
-      giving = giving-on given (broker_ends (domain + 1) (map view (into_iter_items c.next.new.self))) (record { place = Control domain; view = view c.in-Some.control }) c.loop-control.retired.items c.push_reserved.new.self.items c.retire_control.result
+      giving = giving_on given (broker_ends (domain + 1) (map view (into_iter_items c.next.new.self))) (record { place = Control domain; view = view c.in-Some.control }) c.loop-control.retired.items c.push_reserved.new.self.items c.retire_control.result
           c.push_reserved.ensures.items c.retire_control.ensures.same c.retire_control.ensures.honest
           (subst (λ (l : List SeatedEnd). IsGivingBack given (broker_ends domain (map view l)) c.loop-control.retired.items) rest c.loop-control.invariant.giving);
     }
@@ -38,5 +38,5 @@ pub returns : goal.returns
 returns c =
     let over : into_iter_items c.loop-control.control-iterator ≡ [] = grind (arith, common_steps) in
     let domain = c.loop-control.domain + 1 in
-    giving-none (broker_ends 1 (map view c.args.controls.items)) (broker_ends domain (map view (into_iter_items c.loop-control.control-iterator))) c.loop-control.retired.items
+    giving_none (broker_ends 1 (map view c.args.controls.items)) (broker_ends domain (map view (into_iter_items c.loop-control.control-iterator))) c.loop-control.retired.items
     (ap (λ (l : List SeatedEnd). broker_ends domain (map view l)) over) c.loop-control.invariant.giving

@@ -1,5 +1,5 @@
 use Rattle.standstill_laws.proofs.laws.agents_have_asked_all.Goals as goal
-use Rattle.standstill_laws.proofs.AskingLaws.{agents-have-asked-all}
+use Rattle.standstill_laws.proofs.AskingLaws.{agents_have_asked_all_lem}
 
 pub returns : goal.returns
-returns c = agents-have-asked-all
+returns c = agents_have_asked_all_lem

@@ -1,5 +1,5 @@
 use Rattle.standstill_laws.proofs.laws.all_answers_are_said.Goals as goal
-use Rattle.standstill_laws.proofs.LetterLaws.{all-answers-are-said}
+use Rattle.standstill_laws.proofs.LetterLaws.{all_answers_are_said_lem}
 
 pub returns : goal.returns
-returns c = all-answers-are-said
+returns c = all_answers_are_said_lem

@@ -1,5 +1,5 @@
 use Rattle.standstill_laws.proofs.laws.all_are_settled.Goals as goal
-use Rattle.standstill_laws.proofs.DoneLaws.{all-are-settled}
+use Rattle.standstill_laws.proofs.DoneLaws.{all_are_settled_lem}
 
 pub returns : goal.returns
-returns c = all-are-settled
+returns c = all_are_settled_lem

@@ -1,5 +1,5 @@
 use Rattle.standstill_laws.proofs.laws.each_trigger_is_answered.Goals as goal
-use Rattle.standstill_laws.proofs.AnswerLaws.{each-trigger-is-answered}
+use Rattle.standstill_laws.proofs.AnswerLaws.{each_trigger_is_answered_lem}
 
 pub returns : goal.returns
-returns c = each-trigger-is-answered
+returns c = each_trigger_is_answered_lem

@@ -1,5 +1,5 @@
 use Rattle.standstill_laws.proofs.laws.ends_come_in_order.Goals as goal
-use Rattle.standstill_laws.proofs.OrderLaws.{ends-come-in-order}
+use Rattle.standstill_laws.proofs.OrderLaws.{ends_come_in_order_lem}
 
 pub returns : goal.returns
-returns c = ends-come-in-order
+returns c = ends_come_in_order_lem

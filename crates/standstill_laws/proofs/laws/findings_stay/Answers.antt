@@ -1,5 +1,5 @@
 use Rattle.standstill_laws.proofs.laws.findings_stay.Goals as goal
-use Rattle.standstill_laws.proofs.KeepingLaws.{findings-stay}
+use Rattle.standstill_laws.proofs.KeepingLaws.{findings_stay_lem}
 
 pub returns : goal.returns
-returns c = findings-stay
+returns c = findings_stay_lem

@@ -1,5 +1,5 @@
 use Rattle.standstill_laws.proofs.laws.no_session_stands_still.Goals as goal
-use Rattle.standstill_laws.proofs.TurnLaws.{no-session-stands-still}
+use Rattle.standstill_laws.proofs.TurnLaws.{no_session_stands_still_lem}
 
 pub returns : goal.returns
-returns c = no-session-stands-still
+returns c = no_session_stands_still_lem

@@ -1,5 +1,5 @@
 use Rattle.standstill_laws.proofs.laws.none_is_early.Goals as goal
-use Rattle.standstill_laws.proofs.EarlyLaws.{none-is-early}
+use Rattle.standstill_laws.proofs.EarlyLaws.{none_is_early_lem}
 
 pub returns : goal.returns
-returns c = none-is-early
+returns c = none_is_early_lem

@@ -1,5 +1,5 @@
 use Rattle.standstill_laws.proofs.laws.still_pages_are_there.Goals as goal
-use Rattle.standstill_laws.proofs.PageLaws.{still-pages-are-there}
+use Rattle.standstill_laws.proofs.PageLaws.{still_pages_are_there_lem}
 
 pub returns : goal.returns
-returns c = still-pages-are-there
+returns c = still_pages_are_there_lem

@@ -5,7 +5,7 @@ use Rattle.step_script.specs.declared.script.ScriptLine.{ScriptLine}
 use Rattle.step_script.specs.Language.Script.{LineFits, StepLine}
 use Rattle.step_script.specs.Parts.ScriptLines.{line_seen, line_with, payload_len}
 use Rattle.script_words.proofs.LineLaws.{next_line, next_end}
-use Rattle.step_script.proofs.Language.ScriptLaws.{read_on, refused_at, refused_line, refused_next, all_read, sum-more, fit-more}
+use Rattle.step_script.proofs.Language.ScriptLaws.{read_on, refused_at, refused_line, refused_next, all_read, sum_more, fit_more}
 use Rattle.step_script.proofs.read.read_lines.Goals as goal
 
 pub returns-in_err-number-clause-lines : goal.returns-in_err-number-clause-lines
@@ -29,8 +29,8 @@ loop-payload-preserved c =
     let measured : payload_len (line_seen next) ≡ c.len-room.result = omega (arith, ap payload_len same, c.in_ok-line.ensures.len, c.len-room.ensures) in
     record {
       read = rw (c.in_ok-push.ensures.items, sym measured) (read_on orders before next _ _ _ _ _ _ c.loop-payload.invariant.read cut (c.in_ok-line.ensures.line ∙ ap (λ (l : StepLine). Ok l) (sym same)));
-      fit = rw c.in_ok-push.ensures.items (fit-more orders before next c.loop-payload.invariant.fit (subst (LineFits orders) (sym same) c.in_ok-line.ensures.fits.0));
-      short = rw c.in_ok-push.ensures.items (omega (arith, sum-more before next, measured, ap payload_len same, c.in_ok-line.ensures.fits.1));
+      fit = rw c.in_ok-push.ensures.items (fit_more orders before next c.loop-payload.invariant.fit (subst (LineFits orders) (sym same) c.in_ok-line.ensures.fits.0));
+      short = rw c.in_ok-push.ensures.items (omega (arith, sum_more before next, measured, ap payload_len same, c.in_ok-line.ensures.fits.1));
     }
 
 pub returns-clause-lines : goal.returns-clause-lines

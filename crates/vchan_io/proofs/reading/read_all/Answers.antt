@@ -2,7 +2,7 @@
 use Rattle.std.proofs.Common.{◌≡◌, ◌∙◌, ◌++◌, length, take, drop, arith, rules}
 use Rattle.std.proofs.lemmas.Grind.{common_steps}
 use Rattle.std.proofs.lemmas.List.{take_at}
-use Rattle.vchan_io.proofs.Streaming.{Takes-filled}
+use Rattle.vchan_io.proofs.Streaming.{Takes_filled}
 use Rattle.vchan_io.proofs.reading.read_all.Goals as goal
 
 pub loop-filled-preserved : goal.loop-filled-preserved
@@ -14,6 +14,6 @@ loop-filled-preserved g c =
     record {
       within = search rules;
       bounded = search rules;
-      takes = rw whole (Takes-filled _ _ _ _ after _ _ kept c.loop-filled.invariant.takes (search rules));
+      takes = rw whole (Takes_filled _ _ _ _ after _ _ kept c.loop-filled.invariant.takes (search rules));
       unfaulted = c.in_ok-count.ensures.unfaulted ∙ c.loop-filled.invariant.unfaulted;
     }

@@ -1,6 +1,6 @@
 -- Each turn makes one store more.
 use Rattle.std.proofs.Common.{◌≡◌, ℕ, ◌+◌, ◌-◌, suc, refl, subst, ◌∙◌, arith}
-use Rattle.vchan_persist.proofs.ScribbleLaws.{LeadsOn, leads-more}
+use Rattle.vchan_persist.proofs.ScribbleLaws.{LeadsOn, leads_more}
 use Rattle.vchan_persist.proofs.scribbling.scribble.Goals as goal
 
 pub loop-init : goal.loop-init
@@ -18,7 +18,7 @@ loop-preserved c =
     record {
       small = c.next_number-value.ensures.within;
       page = c.store.ensures.page ∙ c.loop.invariant.page;
-      leads = leads-more c.args.seed c.args.stores c.args.end.now.side c.loop.end.side c.store.new.self.side c.loop.x left c.next_number-page.result c.next_number-word.result c.next_number-value.result c.field_of-field.result c.from.result
+      leads = leads_more c.args.seed c.args.stores c.args.end.now.side c.loop.end.side c.store.new.self.side c.loop.x left c.next_number-page.result c.next_number-word.result c.next_number-value.result c.field_of-field.result c.from.result
           (subst (λ (n : ℕ). LeadsOn c.args.seed c.args.stores c.args.end.now.side c.loop.x n c.loop.end.side) one c.loop.invariant.leads)
           c.next_number-page.ensures.number c.next_number-word.ensures.number c.next_number-value.ensures.number c.field_of-field.ensures.field c.from.ensures c.store.ensures.side;
     }

@@ -7,7 +7,7 @@ use Rattle.std.specs.List.{AllByRecursion as Each}
 use Rattle.vchan_persist.specs.declared.client.Client.{Client}
 use Rattle.vchan_persist.specs.declared.epoch.EpochDone.{EpochDone}
 use Rattle.vchan_persist.specs.Clients.{IsServable}
-use Rattle.vchan_persist.proofs.EpochLaws.{all-served, epoch-at, one-more}
+use Rattle.vchan_persist.proofs.EpochLaws.{all_served, epoch_at, one_more}
 use Rattle.vchan_persist.proofs.serve.serve_clients.Goals as goal
 
 pub unreachable-requires : goal.unreachable-requires
@@ -31,12 +31,12 @@ loop-client-preserved g c =
       is_finite = tt;
       servable = (subst (Each IsServable) cut inv.servable).1;
       few = omega (arith, inv.few, fewer);
-      goes_on = one-more c.args.name.now (record { orders = c.args.orders; start = c.args.start }) number (number + 1) c.args.clients.items rest left client c.loop-client.dones.items c.push.new.self.items e cut c.in_ok-push.ensures.items refl
-          (epoch-at c.args.name.now (record { orders = c.args.orders; start = c.args.start }) number client c.in-Some.service c.in_ok-result.field-0.result c.in_ok-result.field-0.settled c.in-Some.ensures c.in_ok-result.ensures) inv.goes_on;
+      goes_on = one_more c.args.name.now (record { orders = c.args.orders; start = c.args.start }) number (number + 1) c.args.clients.items rest left client c.loop-client.dones.items c.push.new.self.items e cut c.in_ok-push.ensures.items refl
+          (epoch_at c.args.name.now (record { orders = c.args.orders; start = c.args.start }) number client c.in-Some.service c.in_ok-result.field-0.result c.in_ok-result.field-0.settled c.in-Some.ensures c.in_ok-result.ensures) inv.goes_on;
     }
 
 pub returns : goal.returns
 returns g c =
     let rest = c.loop-client.client-iterator.rest.items in
     let none : rest ≡ [] = grind (arith, common_steps, c.in-None.ensures.steps) in
-    all-served c.args.name.now (record { orders = c.args.orders; start = c.args.start }) c.loop-client.number c.args.clients.items rest c.loop-client.dones.items none c.loop-client.invariant.goes_on
+    all_served c.args.name.now (record { orders = c.args.orders; start = c.args.start }) c.loop-client.number c.args.clients.items rest c.loop-client.dones.items none c.loop-client.invariant.goes_on

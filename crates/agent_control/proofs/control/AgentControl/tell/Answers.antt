@@ -1,28 +1,28 @@
 use Rattle.std.proofs.Common.{subst}
 use Rattle.qrexec_frame.specs.declared.message.Message.TheVariants.{Terminated}
 use Rattle.agent_control.specs.Speaking.{Says}
-use Rattle.agent_control.proofs.StoppingLaws.{ended-next}
-use Rattle.agent_control.proofs.SpeakingLaws.{tells-nothing, tells-other, tells-own, within-queue}
+use Rattle.agent_control.proofs.StoppingLaws.{ended_next}
+use Rattle.agent_control.proofs.SpeakingLaws.{tells_nothing, tells_other, tells_own, within_queue}
 use Rattle.agent_control.proofs.control.AgentControl.tell.Goals as goal
 
 pub returns-then-not-branch-clause-tells : goal.returns-then-not-branch-clause-tells
 returns-then-not-branch-clause-tells c =
-    tells-nothing c.args.self.now c.say.new.self c.args.end (Terminated c.args.end.domain c.args.end.port) c.say.ensures.end
+    tells_nothing c.args.self.now c.say.new.self c.args.end (Terminated c.args.end.domain c.args.end.port) c.say.ensures.end
     (subst (λ b. Says c.args.self.now c.say.new.self (Terminated c.args.end.domain c.args.end.port) b) c.if-not-branch.true c.in_ok-say.ensures.says)
 
 pub returns-in-Some-clause-tells : goal.returns-in-Some-clause-tells
 returns-in-Some-clause-tells c =
     let says = subst (λ b. Says c.args.self.now c.say.new.self (Terminated c.args.end.domain c.args.end.port) b) c.if-not-branch.false c.in_ok-say.ensures.says in
-    tells-own c.args.self.now c.say.new.self c.ended.new.self c.args.end c.in-Some.place c.in-Some.is (within-queue c.args.self.now c.say.new.self c.args.end c.in-Some.place (Terminated c.args.end.domain c.args.end.port) c.requires.call c.in-Some.is says)
+    tells_own c.args.self.now c.say.new.self c.ended.new.self c.args.end c.in-Some.place c.in-Some.is (within_queue c.args.self.now c.say.new.self c.args.end c.in-Some.place (Terminated c.args.end.domain c.args.end.port) c.requires.call c.in-Some.is says)
     c.say.ensures.end says c.ended.ensures.is c.ended.ensures.asks
 
 pub returns-clause-tells : goal.returns-clause-tells
 returns-clause-tells c =
-    tells-other c.args.self.now c.say.new.self c.args.end c.in-None.is c.say.ensures.end
+    tells_other c.args.self.now c.say.new.self c.args.end c.in-None.is c.say.ensures.end
     (subst (λ b. Says c.args.self.now c.say.new.self (Terminated c.args.end.domain c.args.end.port) b) c.if-not-branch.false c.in_ok-say.ensures.says)
 
 pub returns-in-Some-clause-next : goal.returns-in-Some-clause-next
 returns-in-Some-clause-next c =
     let says = subst (λ b. Says c.args.self.now c.say.new.self (Terminated c.args.end.domain c.args.end.port) b) c.if-not-branch.false c.in_ok-say.ensures.says in
-    ended-next c.args.self.now c.say.new.self c.ended.new.self c.in-Some.place (within-queue c.args.self.now c.say.new.self c.args.end c.in-Some.place (Terminated c.args.end.domain c.args.end.port) c.requires.call c.in-Some.is says)
+    ended_next c.args.self.now c.say.new.self c.ended.new.self c.in-Some.place (within_queue c.args.self.now c.say.new.self c.args.end c.in-Some.place (Terminated c.args.end.domain c.args.end.port) c.requires.call c.in-Some.is says)
     says.queue c.ended.ensures.is

@@ -3,14 +3,14 @@ use Rattle.std.specs.Prelude.{◌⊎◌}
 use Rattle.agent_task.specs.declared.agent.Agent.{Agent}
 use Rattle.agent_task.specs.Moving.{TurnsChannel, KeepsChannel}
 use Rattle.agent_task.specs.State.{AgentState, state_in, TurnsEach}
-use Rattle.agent_task.proofs.TellingLaws.{tells-in}
+use Rattle.agent_task.proofs.TellingLaws.{tells_in}
 use Rattle.agent_task.proofs.task.AgentTask.turn.Goals as goal
 
 pub returns-in-Some-clause-goes : goal.returns-in-Some-clause-goes
 returns-in-Some-clause-goes c = c.finish.ensures.done c.args.self
 
 pub returns-clause-tells : goal.returns-clause-tells
-returns-clause-tells c = tells-in c.go_round.new.agent c.in-Ok.ensures.running c.in-Ok.ensures.agree
+returns-clause-tells c = tells_in c.go_round.new.agent c.in-Ok.ensures.running c.in-Ok.ensures.agree
 
 pub returns-clause-goes : goal.returns-clause-goes
 returns-clause-goes c =

@@ -1,12 +1,12 @@
 use Rattle.std.proofs.Common.{◌≡◌, ℕ, refl, subst, inl, inr, rules, None}
 use Rattle.vchan_rule.specs.Seated.{view}
 use Rattle.vchan_packet.specs.Packet.{sent_to, FailsToSend}
-use Rattle.vchan_packet.proofs.FailingLaws.{fails-to-send}
+use Rattle.vchan_packet.proofs.FailingLaws.{fails_to_send}
 use Rattle.vchan_packet.specs.declared.SendAnswer.{SendAnswer}
 use Rattle.qrexec_frame.specs.Messages.{written}
 use Rattle.qrexec_frame.specs.declared.message.Message.TheVariants.{Hello}
 use Rattle.broker_task.specs.Moving.{has_not_greeted, greeting_waits}
-use Rattle.broker_task.proofs.MovingCalls.{sent-more}
+use Rattle.broker_task.proofs.MovingCalls.{sent_more}
 use Rattle.broker_task.proofs.daemon.Daemon.greet.Goals as goal
 
 pub returns-then-greeted-clause-moves : goal.returns-then-greeted-clause-moves
@@ -19,11 +19,11 @@ pub returns-in-Sent-clause-moves : goal.returns-in-Sent-clause-moves
 returns-in-Sent-clause-moves c =
     let hello = Hello c.args.self.now.port.own in
     let is = subst (λ (a : SendAnswer). view c.greet.new.self.end ≡ sent_to (view c.args.self.now.port.end) a (written hello)) c.in-Sent.is c.in_ok-greet.ensures.view in
-    let both = sent-more c.args.self.now.port.end c.greet.new.self.end hello is in inr (record { got = both.0; more = both.1 })
+    let both = sent_more c.args.self.now.port.end c.greet.new.self.end hello is in inr (record { got = both.0; more = both.1 })
 
 pub returns-in_default-clause-moves : goal.returns-in_default-clause-moves
 returns-in_default-clause-moves c =
     let old = c.args.self.now.port.end in
     let new = c.greet.new.self.end in
-    let fails = fails-to-send old new (written (Hello c.args.self.now.port.own)) c.in_ok-greet.field-0 c.in_default.not-Sent c.in_ok-greet.ensures.view c.in_ok-greet.ensures.trail c.in_ok-greet.ensures.cause in
+    let fails = fails_to_send old new (written (Hello c.args.self.now.port.own)) c.in_ok-greet.field-0 c.in_default.not-Sent c.in_ok-greet.ensures.view c.in_ok-greet.ensures.trail c.in_ok-greet.ensures.cause in
     greeting_waits (c.in_ok-greet.ensures.greeted.1 c.in_default.not-Sent) c.greet.ensures.end (subst (λ (o : ℕ). FailsToSend (written (Hello o)) old new) c.requires.line.own fails)

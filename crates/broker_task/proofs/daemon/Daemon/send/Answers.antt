@@ -1,36 +1,36 @@
 use Rattle.std.proofs.Common.{◌≡◌, ◌≢◌, Bool, true, false, Ok, ap, refl, subst, rules}
 use Rattle.vchan_rule.specs.Seated.{view}
 use Rattle.vchan_packet.specs.Packet.{sent_to, FailsToSend}
-use Rattle.vchan_packet.proofs.FailingLaws.{fails-to-send}
+use Rattle.vchan_packet.proofs.FailingLaws.{fails_to_send}
 use Rattle.vchan_packet.specs.declared.SendAnswer.{SendAnswer}
 use Rattle.vchan_packet.specs.declared.SendAnswer.TheVariants.{Sent}
 use Rattle.control_port.specs.Port.{PortState}
 use Rattle.qrexec_frame.specs.declared.message.Message.{Message}
 use Rattle.broker_task.specs.Moving.{GreetsAsTold}
 use Rattle.qrexec_frame.specs.Messages.{written}
-use Rattle.broker_task.proofs.LineLaws.{read-sending}
-use Rattle.broker_task.proofs.MovingCalls.{greeting-waits, all-held, letter-waits, letter-goes}
+use Rattle.broker_task.proofs.LineLaws.{read_sending}
+use Rattle.broker_task.proofs.MovingCalls.{greeting_waits_lem, all_held_lem, letter_waits_lem, letter_goes}
 use Rattle.broker_task.proofs.daemon.Daemon.send.Goals as goal
 
 pub returns-in_default-2-clause-read : goal.returns-in_default-2-clause-read
 returns-in_default-2-clause-read c = λ events h.
-    read-sending c.greet.new.self (record c.greet.new.self { port = c.say.new.self }) events c.in_ok-say.field-0 (written c.message.result.now) refl c.say.ensures.same c.in_ok-say.ensures.view
+    read_sending c.greet.new.self (record c.greet.new.self { port = c.say.new.self }) events c.in_ok-say.field-0 (written c.message.result.now) refl c.say.ensures.same c.in_ok-say.ensures.view
     (λ heard g. c.say.ensures.heard heard g) (c.in_ok-greet.ensures.read events h)
 
 pub returns-in-Sent-clause-read : goal.returns-in-Sent-clause-read
 returns-in-Sent-clause-read c = λ events h.
-    read-sending c.greet.new.self (record c.greet.new.self { port = c.say.new.self; outbox = c.take.new.self }) events c.in_ok-say.field-0 (written c.message.result.now) refl c.say.ensures.same
+    read_sending c.greet.new.self (record c.greet.new.self { port = c.say.new.self; outbox = c.take.new.self }) events c.in_ok-say.field-0 (written c.message.result.now) refl c.say.ensures.same
     c.in_ok-say.ensures.view (λ heard g. c.say.ensures.heard heard g) (c.in_ok-greet.ensures.read events h)
 
 pub returns-then-not-branch-clause-moves : goal.returns-then-not-branch-clause-moves
 returns-then-not-branch-clause-moves c =
     let no : c.in_ok-greet.field-0 ≡ false = cc in
-    greeting-waits c.args.self.now c.greet.new.self c.greet.ensures.port (subst (λ (b : Bool). GreetsAsTold b c.args.self.now c.greet.new.self) no c.in_ok-greet.ensures.moves)
+    greeting_waits_lem c.args.self.now c.greet.new.self c.greet.ensures.port (subst (λ (b : Bool). GreetsAsTold b c.args.self.now c.greet.new.self) no c.in_ok-greet.ensures.moves)
 
 pub returns-in_default-clause-moves : goal.returns-in_default-clause-moves
 returns-in_default-clause-moves c =
     let yes : c.in_ok-greet.field-0 ≡ true = cc in
-    all-held c.args.self.now c.greet.new.self c.greet.ensures.port (subst (λ (b : Bool). GreetsAsTold b c.args.self.now c.greet.new.self) yes c.in_ok-greet.ensures.moves) (c.in_ok-greet.ensures.greeted (ap Ok yes))
+    all_held_lem c.args.self.now c.greet.new.self c.greet.ensures.port (subst (λ (b : Bool). GreetsAsTold b c.args.self.now c.greet.new.self) yes c.in_ok-greet.ensures.moves) (c.in_ok-greet.ensures.greeted (ap Ok yes))
     (search rules)
 
 pub returns-in_default-2-clause-moves : goal.returns-in_default-2-clause-moves
@@ -41,8 +41,8 @@ returns-in_default-2-clause-moves c =
     let first = c.in-Some.ensures.first in
     let is : c.message.result.now ≡ first.letter.message = c.message.ensures first.letter first.there in
     let apart : c.in_ok-say.field-0 ≢ Sent = search rules in
-    let fails = fails-to-send y.port.end z.port.end (written c.message.result.now) c.in_ok-say.field-0 apart c.in_ok-say.ensures.view c.in_ok-say.ensures.trail c.in_ok-say.ensures.cause in
-    letter-waits c.args.self.now y z c.in-Some.at first.letter c.greet.ensures.port (subst (λ (b : Bool). GreetsAsTold b c.args.self.now y) yes c.in_ok-greet.ensures.moves) (c.in_ok-greet.ensures.greeted (ap Ok yes))
+    let fails = fails_to_send y.port.end z.port.end (written c.message.result.now) c.in_ok-say.field-0 apart c.in_ok-say.ensures.view c.in_ok-say.ensures.trail c.in_ok-say.ensures.cause in
+    letter_waits_lem c.args.self.now y z c.in-Some.at first.letter c.greet.ensures.port (subst (λ (b : Bool). GreetsAsTold b c.args.self.now y) yes c.in_ok-greet.ensures.moves) (c.in_ok-greet.ensures.greeted (ap Ok yes))
     (ap (λ (q : PortState). q.greeted) c.say.ensures.same) refl first.there first.ready first.before c.say.ensures.end (subst (λ (m : Message). FailsToSend (written m) y.port.end z.port.end) is fails)
 
 pub returns-in-Sent-clause-moves : goal.returns-in-Sent-clause-moves
@@ -50,4 +50,4 @@ returns-in-Sent-clause-moves c =
     let yes : c.in_ok-greet.field-0 ≡ true = cc in
     let y = c.greet.new.self in
     let is = subst (λ (a : SendAnswer). view c.say.new.self.end ≡ sent_to (view y.port.end) a (written c.message.result.now)) c.in-Sent.is c.in_ok-say.ensures.view in
-    letter-goes c.args.self.now y (record y { port = c.say.new.self; outbox = c.take.new.self }) c.message.result.now (subst (λ (b : Bool). GreetsAsTold b c.args.self.now y) yes c.in_ok-greet.ensures.moves) is
+    letter_goes c.args.self.now y (record y { port = c.say.new.self; outbox = c.take.new.self }) c.message.result.now (subst (λ (b : Bool). GreetsAsTold b c.args.self.now y) yes c.in_ok-greet.ensures.moves) is

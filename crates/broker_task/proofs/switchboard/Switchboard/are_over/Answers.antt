@@ -4,8 +4,8 @@ use Rattle.call_broker.specs.Journal.{live}
 use Rattle.broker_task.specs.declared.daemon.Daemon.{Daemon}
 use Rattle.broker_task.specs.Lines.{IsLine}
 use Rattle.broker_task.specs.Posting.{EachAt}
-use Rattle.broker_task.proofs.PostLaws.{at-item}
-use Rattle.broker_task.proofs.SettledLaws.{live-next, too-many}
+use Rattle.broker_task.proofs.PostLaws.{at_item}
+use Rattle.broker_task.proofs.SettledLaws.{live_next, too_many}
 use Rattle.broker_task.proofs.switchboard.Switchboard.are_over.Goals as goal
 
 pub loop-other-preserved : goal.loop-other-preserved
@@ -15,8 +15,8 @@ loop-other-preserved c =
     let n = c.loop-other.other-index in
     let lines : EachAt IsLine items = subst (λ (l : List Daemon). EachAt IsLine l) (sym c.deref-other-items.ensures.value) c.requires in
     let less : n < length items = omega arith in
-    let number = ap (λ (z : Daemon). z.domain) c.other-item.is ∙ (lines n _ (at-item items n c.other-item.result less c.other-item.is)).number in
-    live-next s.broker.hub s.broker.journal c.args.daemon.now.domain n c.args.daemon.now.answered c.live-live.result c.loop-other.over _ c.loop-other.invariant
+    let number = ap (λ (z : Daemon). z.domain) c.other-item.is ∙ (lines n _ (at_item items n c.other-item.result less c.other-item.is)).number in
+    live_next s.broker.hub s.broker.journal c.args.daemon.now.domain n c.args.daemon.now.answered c.live-live.result c.loop-other.over _ c.loop-other.invariant
     (c.live-live.ensures.live ∙ ap (λ (k : ℕ). length (live s.broker.hub s.broker.journal c.args.daemon.now.domain k)) number) (omega arith) refl
 
 pub returns-then-live-over : goal.returns-then-live-over
@@ -28,10 +28,10 @@ returns-then-live-over c =
     let lines : EachAt IsLine items = subst (λ (l : List Daemon). EachAt IsLine l) (sym c.deref-other-items.ensures.value) c.requires in
     let less : n < length items = omega arith in
     let count : length items ≡ length s.daemons.items = ap (λ (l : List Daemon). length l) c.deref-other-items.ensures.value in
-    let number = ap (λ (z : Daemon). z.domain) c.other-item.is ∙ (lines n _ (at-item items n c.other-item.result less c.other-item.is)).number in
+    let number = ap (λ (z : Daemon). z.domain) c.other-item.is ∙ (lines n _ (at_item items n c.other-item.result less c.other-item.is)).number in
     let is : c.live-live.result ≡ length (live s.broker.hub s.broker.journal d (n + 1)) = c.live-live.ensures.live ∙ ap (λ (k : ℕ). length (live s.broker.hub s.broker.journal d k)) number in (
       (λ yes. absurd (false≢true yes)),
       (λ p.
           absurd
-          (too-many s.broker.hub s.broker.journal d n (length s.daemons.items) c.args.daemon.now.answered c.live-live.result c.loop-other.over c.args.daemon.now.awaited c.loop-other.invariant is (omega arith) (omega (arith, less, count)) p)),
+          (too_many s.broker.hub s.broker.journal d n (length s.daemons.items) c.args.daemon.now.answered c.live-live.result c.loop-other.over c.args.daemon.now.awaited c.loop-other.invariant is (omega arith) (omega (arith, less, count)) p)),
     )

@@ -6,43 +6,43 @@ use Rattle.broker_task.specs.Letters.{IsAt}
 use Rattle.broker_task.specs.Lines.{end_of, IsGoing}
 use Rattle.broker_task.specs.Posting.{EachAt}
 use Rattle.broker_task.specs.Rounds.{IsThere}
-use Rattle.broker_task.proofs.PostLaws.{on-ok}
-use Rattle.broker_task.proofs.HearingSteps.{place-of-domain}
-use Rattle.broker_task.proofs.RoundSteps.{each-here, still-there, heard-fine, no-fault, goes-on-ok}
-use Rattle.broker_task.proofs.KeepingSteps.{keeps-none, keeps-all, keeps-ends, keeps-through}
+use Rattle.broker_task.proofs.PostLaws.{on_ok}
+use Rattle.broker_task.proofs.HearingSteps.{place_of_domain}
+use Rattle.broker_task.proofs.RoundSteps.{each_here, still_there, heard_fine, no_fault, goes_on_ok}
+use Rattle.broker_task.proofs.KeepingSteps.{keeps_none, keeps_all, keeps_ends, keeps_through}
 use Rattle.broker_task.specs.Moving.{Steps, ListensAsTold}
 use Rattle.broker_task.specs.Posting.{EachMoves}
-use Rattle.broker_task.proofs.MovingLaws.{gone-turns, drop-turns, send-turns}
+use Rattle.broker_task.proofs.MovingLaws.{gone_turns, drop_turns, send_turns}
 use Rattle.broker_task.proofs.switchboard.Switchboard.attend.Goals as goal
 
 pub returns-then-is_gone-clause-kept : goal.returns-then-is_gone-clause-kept
-returns-then-is_gone-clause-kept c = keeps-none c.args.self.now.daemons.items
+returns-then-is_gone-clause-kept c = keeps_none c.args.self.now.daemons.items
 
 pub returns-in_err-hear-clause-kept : goal.returns-in_err-hear-clause-kept
 returns-in_err-hear-clause-kept c =
-    keeps-all c.args.self.now.daemons.items c.listen.new.self.daemons.items c.hear.new.self.daemons.items c.listen.ensures.kept (keeps-ends c.listen.new.self.daemons.items c.hear.new.self.daemons.items c.hear.ensures.ends)
+    keeps_all c.args.self.now.daemons.items c.listen.new.self.daemons.items c.hear.new.self.daemons.items c.listen.ensures.kept (keeps_ends c.listen.new.self.daemons.items c.hear.new.self.daemons.items c.hear.ensures.ends)
 
 pub returns-then-not-there-clause-kept : goal.returns-then-not-there-clause-kept
 returns-then-not-there-clause-kept c =
-    keeps-through c.args.self.now.daemons.items c.listen.new.self.daemons.items c.hear.new.self.daemons.items c.drop_domain.new.self.daemons.items c.listen.ensures.kept c.hear.ensures.ends c.drop_domain.ensures.kept
+    keeps_through c.args.self.now.daemons.items c.listen.new.self.daemons.items c.hear.new.self.daemons.items c.drop_domain.new.self.daemons.items c.listen.ensures.kept c.hear.ensures.ends c.drop_domain.ensures.kept
 
 pub returns-then-not-is_fine-clause-kept : goal.returns-then-not-is_fine-clause-kept
 returns-then-not-is_fine-clause-kept c =
-    keeps-through c.args.self.now.daemons.items c.listen.new.self.daemons.items c.hear.new.self.daemons.items c.drop_domain-then-not-is_fine.new.self.daemons.items c.listen.ensures.kept c.hear.ensures.ends
+    keeps_through c.args.self.now.daemons.items c.listen.new.self.daemons.items c.hear.new.self.daemons.items c.drop_domain-then-not-is_fine.new.self.daemons.items c.listen.ensures.kept c.hear.ensures.ends
     c.drop_domain-then-not-is_fine.ensures.kept
 
 pub returns-clause-kept : goal.returns-clause-kept
 returns-clause-kept c =
-    keeps-through c.args.self.now.daemons.items c.listen.new.self.daemons.items c.hear.new.self.daemons.items c.send.new.self.daemons.items c.listen.ensures.kept c.hear.ensures.ends c.send.ensures.kept
+    keeps_through c.args.self.now.daemons.items c.listen.new.self.daemons.items c.hear.new.self.daemons.items c.send.new.self.daemons.items c.listen.ensures.kept c.hear.ensures.ends c.send.ensures.kept
 
 pub returns-then-not-there-clause-goes : goal.returns-then-not-there-clause-goes
 returns-then-not-there-clause-goes c =
-    goes-on-ok c.drop_domain.result c.args.self.now c.listen.new.self c.hear.new.self c.drop_domain.new.self c.requires.ready c.listen.ensures.broker c.in_ok-there.ensures.same c.hear.ensures.hub c.hear.ensures.ends
+    goes_on_ok c.drop_domain.result c.args.self.now c.listen.new.self c.hear.new.self c.drop_domain.new.self c.requires.ready c.listen.ensures.broker c.in_ok-there.ensures.same c.hear.ensures.hub c.hear.ensures.ends
     c.drop_domain.ensures.hub c.drop_domain.ensures.same c.drop_domain.ensures.posting c.drop_domain.ensures.read c.drop_domain.ensures.holds
 
 pub returns-then-not-is_fine-clause-goes : goal.returns-then-not-is_fine-clause-goes
 returns-then-not-is_fine-clause-goes c =
-    goes-on-ok c.drop_domain-then-not-is_fine.result c.args.self.now c.listen.new.self c.hear.new.self c.drop_domain-then-not-is_fine.new.self c.requires.ready c.listen.ensures.broker c.in_ok-there.ensures.same c.hear.ensures.hub
+    goes_on_ok c.drop_domain-then-not-is_fine.result c.args.self.now c.listen.new.self c.hear.new.self c.drop_domain-then-not-is_fine.new.self c.requires.ready c.listen.ensures.broker c.in_ok-there.ensures.same c.hear.ensures.hub
     c.hear.ensures.ends c.drop_domain-then-not-is_fine.ensures.hub c.drop_domain-then-not-is_fine.ensures.same c.drop_domain-then-not-is_fine.ensures.posting c.drop_domain-then-not-is_fine.ensures.read c.drop_domain-then-not-is_fine.ensures.holds
 
 pub send-requires-clause-sending : goal.send-requires-clause-sending
@@ -52,47 +52,47 @@ send-requires-clause-sending c =
     let x = c.index-2.result.now in
     let hub_is = c.hear.ensures.hub ∙ ap (λ (b : Brokered). b.hub) c.listen.ensures.broker in
     let number = subst (λ (h : Domains). is_domain h c.args.domain ≡ true) (sym hub_is) c.requires.number in
-    let place = place-of-domain s.broker.hub ds c.args.domain number c.in_ok-hear.ensures.posting.count in
+    let place = place_of_domain s.broker.hub ds c.args.domain number c.in_ok-hear.ensures.posting.count in
     let there : IsAt ds (c.args.domain - 1) x = record { within = place.0; is = c.index-2.ensures } in
     let fine : is_none x.port.fault ≡ true = cc in
     let up : c.in_ok-there.there ≡ true = cc in
-    let here = subst (λ (b : Bool). EachAt (λ d y. d ≡ c.args.domain → IsThere b y) ds) up (still-there c.args.domain c.in_ok-there.there c.listen.new.self.daemons.items ds c.hear.ensures.ends c.in_ok-there.ensures.listened.whether) in
+    let here = subst (λ (b : Bool). EachAt (λ d y. d ≡ c.args.domain → IsThere b y) ds) up (still_there c.args.domain c.in_ok-there.there c.listen.new.self.daemons.items ds c.hear.ensures.ends c.in_ok-there.ensures.listened.whether) in
     let going = (here (c.args.domain - 1) x there place.1).1 in
     record {
       posting = c.in_ok-hear.ensures.posting;
-      read = heard-fine c.args.domain s.broker.journal ds c.in_ok-hear.ensures.heard (each-here (λ y. (y.port.fault ≡ None) × IsGoing (end_of y)) c.args.domain ds (c.args.domain - 1) x there place.1 (no-fault x.port.fault fine, going));
+      read = heard_fine c.args.domain s.broker.journal ds c.in_ok-hear.ensures.heard (each_here (λ y. (y.port.fault ≡ None) × IsGoing (end_of y)) c.args.domain ds (c.args.domain - 1) x there place.1 (no_fault x.port.fault fine, going));
       opened = λ i y at same. (here i y at same).0;
     }
 
 pub returns-clause-goes : goal.returns-clause-goes
 returns-clause-goes c =
-    goes-on-ok c.send.result c.args.self.now c.listen.new.self c.hear.new.self c.send.new.self c.requires.ready c.listen.ensures.broker c.in_ok-there.ensures.same c.hear.ensures.hub c.hear.ensures.ends
-    (ap (λ (b : Brokered). b.hub) c.send.ensures.broker) c.send.ensures.same (on-ok c.send.result c.send.ensures.sending (λ p. p.posting)) (on-ok c.send.result c.send.ensures.sending (λ p. p.read)) c.send.ensures.holds
+    goes_on_ok c.send.result c.args.self.now c.listen.new.self c.hear.new.self c.send.new.self c.requires.ready c.listen.ensures.broker c.in_ok-there.ensures.same c.hear.ensures.hub c.hear.ensures.ends
+    (ap (λ (b : Brokered). b.hub) c.send.ensures.broker) c.send.ensures.same (on_ok c.send.result c.send.ensures.sending (λ p. p.posting)) (on_ok c.send.result c.send.ensures.sending (λ p. p.read)) c.send.ensures.holds
 
 pub returns-then-is_gone-clause-turns : goal.returns-then-is_gone-clause-turns
 returns-then-is_gone-clause-turns c =
     let ds = c.args.self.now.daemons.items in
     let x = c.index.result.now in
-    let place = place-of-domain c.args.self.now.broker.hub ds c.args.domain c.requires.number c.requires.ready.posting.count in
+    let place = place_of_domain c.args.self.now.broker.hub ds c.args.domain c.requires.number c.requires.ready.posting.count in
     let there : IsAt ds (c.args.domain - 1) x = record { within = place.0; is = c.index.ensures } in
-    gone-turns c.args.domain ds (c.args.domain - 1) x there place.1 (sym c.is_gone.ensures ∙ c.if-is_gone.true)
+    gone_turns c.args.domain ds (c.args.domain - 1) x there place.1 (sym c.is_gone.ensures ∙ c.if-is_gone.true)
 
 pub returns-then-not-there-clause-turns : goal.returns-then-not-there-clause-turns
 returns-then-not-there-clause-turns c =
-    on-ok c.drop_domain.result c.drop_domain.ensures.steps
-    (λ drop. drop-turns c.args.domain c.in_ok-there.there c.args.self.now.daemons.items c.listen.new.self.daemons.items c.hear.new.self.daemons.items c.drop_domain.new.self.daemons.items c.in_ok-there.ensures.steps c.in_ok-hear.ensures.steps drop)
+    on_ok c.drop_domain.result c.drop_domain.ensures.steps
+    (λ drop. drop_turns c.args.domain c.in_ok-there.there c.args.self.now.daemons.items c.listen.new.self.daemons.items c.hear.new.self.daemons.items c.drop_domain.new.self.daemons.items c.in_ok-there.ensures.steps c.in_ok-hear.ensures.steps drop)
 
 pub returns-then-not-is_fine-clause-turns : goal.returns-then-not-is_fine-clause-turns
 returns-then-not-is_fine-clause-turns c =
-    on-ok c.drop_domain-then-not-is_fine.result c.drop_domain-then-not-is_fine.ensures.steps
+    on_ok c.drop_domain-then-not-is_fine.result c.drop_domain-then-not-is_fine.ensures.steps
     (λ drop.
-    drop-turns c.args.domain c.in_ok-there.there c.args.self.now.daemons.items c.listen.new.self.daemons.items c.hear.new.self.daemons.items c.drop_domain-then-not-is_fine.new.self.daemons.items c.in_ok-there.ensures.steps
+    drop_turns c.args.domain c.in_ok-there.there c.args.self.now.daemons.items c.listen.new.self.daemons.items c.hear.new.self.daemons.items c.drop_domain-then-not-is_fine.new.self.daemons.items c.in_ok-there.ensures.steps
     c.in_ok-hear.ensures.steps drop)
 
 pub returns-clause-turns : goal.returns-clause-turns
 returns-clause-turns c =
     let up : c.in_ok-there.there ≡ true = cc in
-    on-ok c.send.result c.send.ensures.steps
+    on_ok c.send.result c.send.ensures.steps
     (λ sends.
-    send-turns c.args.domain c.args.self.now.daemons.items c.listen.new.self.daemons.items c.hear.new.self.daemons.items c.send.new.self.daemons.items
+    send_turns c.args.domain c.args.self.now.daemons.items c.listen.new.self.daemons.items c.hear.new.self.daemons.items c.send.new.self.daemons.items
     (subst (λ (b : Bool). EachMoves (Steps c.args.domain (ListensAsTold b)) c.args.self.now.daemons.items c.listen.new.self.daemons.items) up c.in_ok-there.ensures.steps) c.in_ok-hear.ensures.steps sends)

@@ -2,7 +2,7 @@ use Rattle.std.proofs.Common.{◌≡◌, ◌<◌, ◌*◌, ◌-◌, ◌+◌, ◌
 use Rattle.std.specs.Prelude.{nat_le, vec_len}
 use Rattle.std.proofs.lemmas.List.{length-map}
 use Rattle.call_broker.specs.declared.domain.DomainEntry.{DomainEntry}
-use Rattle.call_broker.proofs.AnswerLaws.{page-within}
+use Rattle.call_broker.proofs.AnswerLaws.{page_within}
 use Rattle.call_broker.proofs.broker.Broker.pages_for.Goals as goal
 
 pub index-requires : goal.index-requires
@@ -15,4 +15,4 @@ index-requires c =
     let to : (nat_le 1 c.args.to && nat_le c.args.to n) ≡ true = rw count at c.requires.to in
     let square : length c.self.inside.pages.items ≡ n * n = c.self.invariant.square ∙ ap (λ k. k * k) names in
     let len : n * n ≡ vec_len c.self.inside.pages = sym square ∙ omega (arith, c.self.inside.pages.ok.0) in
-    subst (λ pages. (c.args.from - 1) * n + (c.args.to - 1) < pages) len (page-within n c.args.from c.args.to from to)
+    subst (λ pages. (c.args.from - 1) * n + (c.args.to - 1) < pages) len (page_within n c.args.from c.args.to from to)

@@ -1,7 +1,7 @@
 use Rattle.std.proofs.Common.{ap, ◌∙◌, rules}
 use Rattle.vchan_rule.specs.Seated.{view}
 use Rattle.channel_session.specs.Calling.{CallerAt}
-use Rattle.channel_session.proofs.TurningLaws.{finds-not-yet}
+use Rattle.channel_session.proofs.TurningLaws.{finds_not_yet}
 use Rattle.channel_session.proofs.CallingLaws.{took}
 use Rattle.channel_session.proofs.caller.CallerSession.read_on.Goals as goal
 
@@ -16,5 +16,5 @@ pub returns-in-NotYet-clause-came : goal.returns-in-NotYet-clause-came
 returns-in-NotYet-clause-came c = (
   ap (λ (s : CallerAt). s.caller) c.self.view_is,
   ap (λ v. v.got) c.in-NotYet.ensures.view ∙ ap (λ (s : CallerAt). (view s.end).got) c.self.view_is,
-  finds-not-yet c.args.self.now.end c.self.inside.end c.drain.new.end c.args.buf.now c.in-NotYet.prod c.in-NotYet.cons (ap (λ (s : CallerAt). s.end) c.self.view_is) c.requires.some c.in-NotYet.ensures.trail c.in-NotYet.ensures.cause,
+  finds_not_yet c.args.self.now.end c.self.inside.end c.drain.new.end c.args.buf.now c.in-NotYet.prod c.in-NotYet.cons (ap (λ (s : CallerAt). s.end) c.self.view_is) c.requires.some c.in-NotYet.ensures.trail c.in-NotYet.ensures.cause,
 )

@@ -3,7 +3,7 @@ use Rattle.vchan_rule.specs.Seated.{view}
 use Rattle.vchan_rule.specs.Ends.{IsSameEnd}
 use Rattle.channel_session.specs.Calling.{CallerAt, CallerTurns, CallerWrites}
 use Rattle.channel_session.specs.Turning.{Pace, KeepsShut}
-use Rattle.channel_session.proofs.TurningLaws.{caller-turns, keeps-shut}
+use Rattle.channel_session.proofs.TurningLaws.{caller_turns, keeps_shut}
 use Rattle.channel_session.proofs.caller.CallerSession.turn.Goals as goal
 
 pub returns-clause-turned : goal.returns-clause-turned
@@ -16,7 +16,7 @@ returns-clause-turned c =
     let pace : Pace = record { peer_shut = inside.peer_shut; quiet = c.note.new.self.quiet; passed = c.note.new.self.passed } in
     let new : CallerAt = record { caller = inside.caller; end = inside.end; pace = pace } in
     subst (λ t. CallerTurns t old new) (sym c.note.ensures.turned)
-    (caller-turns c.in_ok-came.came c.in_ok-went.went old a b end pace c.is_due.ensures.end c.in_ok-came.ensures.end
+    (caller_turns c.in_ok-came.came c.in_ok-went.went old a b end pace c.is_due.ensures.end c.in_ok-came.ensures.end
     (subst (λ (s : CallerAt). IsSameEnd b.end s.end) (sym c.self-2.view_is) c.in_ok-went.ensures.end) c.is_due.ensures.view c.is_due.ensures.same.0 c.is_due.ensures.same.1 c.requires.undecided
     c.in_ok-came.ensures.came c.in_ok-came.ensures.kept.0 c.in_ok-came.ensures.kept.1
     (subst (λ (s : CallerAt). CallerWrites c.in_ok-went.went b s) (sym c.self-2.view_is) c.in_ok-went.ensures.went)
@@ -27,6 +27,6 @@ pub returns-clause-shut : goal.returns-clause-shut
 returns-clause-shut c =
     let inside = c.self-2.inside in
     let pace : Pace = record { peer_shut = inside.peer_shut; quiet = inside.pause.quiet; passed = inside.pause.passed } in
-    keeps-shut c.args.self.now.pace c.read_on.new.self.pace pace c.args.self.now.end c.is_due.new.self.end c.read_on.new.self.end inside.end (c.in_ok-came.ensures.kept.0 ∙ c.is_due.ensures.same.1)
+    keeps_shut c.args.self.now.pace c.read_on.new.self.pace pace c.args.self.now.end c.is_due.new.self.end c.read_on.new.self.end inside.end (c.in_ok-came.ensures.kept.0 ∙ c.is_due.ensures.same.1)
     c.is_due.ensures.end c.in_ok-came.ensures.end
     (subst (λ (s : CallerAt). KeepsShut c.read_on.new.self.pace s.pace c.read_on.new.self.end s.end) (sym c.self-2.view_is) c.in_ok-went.ensures.shut)

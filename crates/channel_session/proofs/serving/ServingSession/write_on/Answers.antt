@@ -1,14 +1,14 @@
 use Rattle.std.proofs.Common.{refl, ap, inr, rules}
 use Rattle.channel_session.specs.Answering.{ServingAt}
 use Rattle.channel_session.specs.Turning.{RingIsFull}
-use Rattle.channel_session.proofs.TurningLaws.{finds-full, finds-shut}
-use Rattle.channel_session.proofs.AnsweringLaws.{works-on}
+use Rattle.channel_session.proofs.TurningLaws.{finds_full, finds_shut}
+use Rattle.channel_session.proofs.AnsweringLaws.{works_on}
 use Rattle.channel_session.proofs.serving.ServingSession.write_on.Goals as goal
 use Rattle.vchan_rule.specs.Called.{most_asked}
 
 pub returns-in-Wrote-clause-work : goal.returns-in-Wrote-clause-work
 returns-in-Wrote-clause-work c =
-    works-on c.args.self.now.serving c.front.follows.lender-at-none c.advance.new.self c.args.self.now.end c.write.new.end c.in_ok-piece.piece.now c.in-Wrote.count c.requires.work (search rules)
+    works_on c.args.self.now.serving c.front.follows.lender-at-none c.advance.new.self c.args.self.now.end c.write.new.end c.in_ok-piece.piece.now c.in-Wrote.count c.requires.work (search rules)
     (search rules) (search rules) (search rules) (search rules) (search rules)
 
 pub returns-in-Full-clause-went : goal.returns-in-Full-clause-went
@@ -16,12 +16,12 @@ returns-in-Full-clause-went c = (
   search rules,
   search rules,
   RingIsFull (search rules)
-      (finds-full c.args.self.now.end c.self.inside.end c.write.new.end c.in_ok-piece.piece.now c.front.follows.lender-at-none.answering.waiting c.in-Full.prod c.in-Full.cons (ap (λ (s : ServingAt). s.end) c.self.view_is) (search rules)
+      (finds_full c.args.self.now.end c.self.inside.end c.write.new.end c.in_ok-piece.piece.now c.front.follows.lender-at-none.answering.waiting c.in-Full.prod c.in-Full.cons (ap (λ (s : ServingAt). s.end) c.self.view_is) (search rules)
       c.in-Full.ensures.trail c.in-Full.ensures.cause),
 )
 
 pub returns-in-PeerClosed-clause-shut : goal.returns-in-PeerClosed-clause-shut
 returns-in-PeerClosed-clause-shut c = (
   λ was. refl,
-  λ shut. inr (c.self.inside.end, most_asked c.in_ok-piece.piece.now, search rules, finds-shut c.self.inside.end c.write.new.end c.in_ok-piece.piece.now c.in-PeerClosed.ensures.trail c.in-PeerClosed.ensures.cause),
+  λ shut. inr (c.self.inside.end, most_asked c.in_ok-piece.piece.now, search rules, finds_shut c.self.inside.end c.write.new.end c.in_ok-piece.piece.now c.in-PeerClosed.ensures.trail c.in-PeerClosed.ensures.cause),
 )

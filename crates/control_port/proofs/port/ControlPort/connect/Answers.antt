@@ -4,14 +4,14 @@ use Rattle.vchan_protocol.specs.Answering.Causes.{ConnectCause}
 use Rattle.vchan_protocol.specs.Answering.Loads.{loads_of}
 use Rattle.vchan_protocol.specs.History.Core.{standing_of}
 use Rattle.control_port.specs.Port.{PortState}
-use Rattle.control_port.proofs.PortLaws.{heard-end, said-end, connected-sent, connected-got}
+use Rattle.control_port.proofs.PortLaws.{heard_end, said_end, connected_sent, connected_got}
 use Rattle.control_port.proofs.port.ControlPort.connect.Goals as goal
 
 pub returns-clause-said : goal.returns-clause-said
-returns-clause-said c = λ said h. said-end c.args.self.now _ c.connect.new.end said (sym c.self.view_is) (ap (λ e. e.sent) c.connect.ensures.view ∙ connected-sent _ _) h
+returns-clause-said c = λ said h. said_end c.args.self.now _ c.connect.new.end said (sym c.self.view_is) (ap (λ e. e.sent) c.connect.ensures.view ∙ connected_sent _ _) h
 
 pub returns-clause-heard : goal.returns-clause-heard
-returns-clause-heard c = λ heard h. heard-end c.args.self.now _ c.connect.new.end heard (sym c.self.view_is) (ap (λ e. e.got) c.connect.ensures.view ∙ connected-got _ _) h
+returns-clause-heard c = λ heard h. heard_end c.args.self.now _ c.connect.new.end heard (sym c.self.view_is) (ap (λ e. e.got) c.connect.ensures.view ∙ connected_got _ _) h
 
 pub returns-clause-cause : goal.returns-clause-cause
 returns-clause-cause c = λ other.

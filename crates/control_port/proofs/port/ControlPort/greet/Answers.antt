@@ -9,16 +9,16 @@ use Rattle.vchan_protocol.specs.Answering.Causes.{SendCause}
 use Rattle.vchan_protocol.specs.Answering.Loads.{loads_of}
 use Rattle.vchan_protocol.specs.History.Core.{standing_of}
 use Rattle.control_port.specs.Port.{PortState, HasHeard}
-use Rattle.control_port.proofs.PortLaws.{heard-still, heard-greeted}
+use Rattle.control_port.proofs.PortLaws.{heard_still, heard_greeted}
 use Rattle.control_port.proofs.port.ControlPort.greet.Goals as goal
 
 pub returns-then-eq-clause-heard : goal.returns-then-eq-clause-heard
 returns-then-eq-clause-heard c = λ heard h.
     let P : PortState → Type 0 = λ p. HasHeard p heard in
-    heard-greeted _ heard true (subst P (sym c.self.view_is) (heard-still c.args.self.now c.put-2.new.self heard c.put-2.ensures.same c.put-2.ensures.got h))
+    heard_greeted _ heard true (subst P (sym c.self.view_is) (heard_still c.args.self.now c.put-2.new.self heard c.put-2.ensures.same c.put-2.ensures.got h))
 
 pub returns-else-eq-clause-heard : goal.returns-else-eq-clause-heard
-returns-else-eq-clause-heard c = λ heard h. heard-still c.args.self.now c.put-2.new.self heard c.put-2.ensures.same c.put-2.ensures.got h
+returns-else-eq-clause-heard c = λ heard h. heard_still c.args.self.now c.put-2.new.self heard c.put-2.ensures.same c.put-2.ensures.got h
 
 pub returns-then-eq-clause-view : goal.returns-then-eq-clause-view
 returns-then-eq-clause-view c =

@@ -4,7 +4,7 @@ use Rattle.data_slots.specs.Stages.{Frame, told_of, framed, IsStage}
 use Rattle.data_slots.specs.declared.slot.Stage.{Stage}
 use Rattle.std.specs.Prelude.{IfNone}
 use Rattle.data_slots.specs.Sessions.{TakesTurn, IsOver, session_of}
-use Rattle.data_slots.proofs.SessionLaws.{turn-open, ends-after}
+use Rattle.data_slots.proofs.SessionLaws.{turn_open, ends_after}
 use Rattle.data_slots.proofs.slot.Slot.turn.Goals as goal
 
 pub returns-in_err-turn-clause-frame : goal.returns-in_err-turn-clause-frame
@@ -46,4 +46,4 @@ returns-else-is_abandoned-clause-turns c =
 pub returns-in-Some-clause-turns : goal.returns-in-Some-clause-turns
 returns-in-Some-clause-turns c =
     let old = c.args.self.now.stage in
-    IsOver (ends-after (session_of old) (session_of c.turn.new.self) (session_of c.end.new.self.stage) (turn-open old c.requires.open) c.in_ok-turn.ensures.kept c.end.ensures.ends)
+    IsOver (ends_after (session_of old) (session_of c.turn.new.self) (session_of c.end.new.self.stage) (turn_open old c.requires.open) c.in_ok-turn.ensures.kept c.end.ensures.ends)

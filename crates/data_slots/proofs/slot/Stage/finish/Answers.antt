@@ -9,8 +9,8 @@ use Rattle.data_slots.specs.declared.slot.Stage.TheVariants.{Serves}
 use Rattle.data_slots.specs.declared.slot.ServingResult.{ServingResult}
 use Rattle.data_slots.specs.Stages.{IsStage}
 use Rattle.data_slots.specs.Sessions.{EndedWith, ComesToItsEnd, session_of}
-use Rattle.data_slots.proofs.SideLaws.{serving-over}
-use Rattle.data_slots.proofs.SessionLaws.{call-ends, serving-ends}
+use Rattle.data_slots.proofs.SideLaws.{serving_over}
+use Rattle.data_slots.proofs.SessionLaws.{call_ends, serving_ends}
 use Rattle.data_slots.proofs.slot.Stage.finish.Goals as goal
 
 pub returns-in-Serves-clause-stage : goal.returns-in-Serves-clause-stage
@@ -20,7 +20,7 @@ returns-in-Serves-clause-stage c = λ version stage name is_service.
     let was : IsStage version (Serves c.in-Serves.number c.in-Serves.service c.in-Serves.side c.in-Serves.session) = subst P c.in-Serves.is stage in
     let owed = c.finish-in-Serves.ensures.owed name (builtin_owes c.in-Serves.service.value) is_service was.2 in
     let with_outcome : Outcome → ServingResult = λ o. record { outcome = o; got = ended.got } in
-    serving-over version name c.in-Serves.side c.serving_result-came.result.0 c.serving_result-came.result.1 c.args.outcome ended.got (last_view ended.retired)
+    serving_over version name c.in-Serves.side c.serving_result-came.result.0 c.serving_result-came.result.1 c.args.outcome ended.got (last_view ended.retired)
     (c.serving_result-came.ensures.result ∙ ap with_outcome c.finish-in-Serves.ensures.outcome) c.serving_result-came.ensures.end
     (subst (λ v. ServingOwes v name c.args.outcome ended.got (last_view ended.retired)) was.1 owed)
 
@@ -28,10 +28,10 @@ pub returns-in-Calls-clause-ends : goal.returns-in-Calls-clause-ends
 returns-in-Calls-clause-ends c =
     let end = c.caller_result-came.result.1 in
     subst (λ (s : Stage). ComesToItsEnd (session_of s) (EndedWith (done_view end))) (sym c.in-Calls.is)
-    (call-ends c.in-Calls.session c.in-Calls.side (last_view c.finish.result.retired) end c.finish.ensures.end c.caller_result-came.ensures.end)
+    (call_ends c.in-Calls.session c.in-Calls.side (last_view c.finish.result.retired) end c.finish.ensures.end c.caller_result-came.ensures.end)
 
 pub returns-in-Serves-clause-ends : goal.returns-in-Serves-clause-ends
 returns-in-Serves-clause-ends c =
     let end = c.serving_result-came.result.1 in
     subst (λ (s : Stage). ComesToItsEnd (session_of s) (EndedWith (done_view end))) (sym c.in-Serves.is)
-    (serving-ends c.in-Serves.session c.in-Serves.side (last_view c.finish-in-Serves.result.retired) end c.finish-in-Serves.ensures.end c.serving_result-came.ensures.end)
+    (serving_ends c.in-Serves.session c.in-Serves.side (last_view c.finish-in-Serves.result.retired) end c.finish-in-Serves.ensures.end c.serving_result-came.ensures.end)

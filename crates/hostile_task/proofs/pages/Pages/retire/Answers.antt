@@ -2,7 +2,7 @@
 use Rattle.std.proofs.Common.{◌≡◌, List, [], ◌∷◌, ◌++◌, subst, sym, ap, ◌∙◌, arith}
 use Rattle.std.proofs.lemmas.Grind.{common_steps}
 use Rattle.std.specs.List.{AllZip as EachPair}
-use Rattle.list_laws.proofs.Pairs.{pairs-push}
+use Rattle.list_laws.proofs.Pairs.{pairs_push}
 use Rattle.task_duties.specs.declared.ends.RetiredEnd.{RetiredEnd}
 use Rattle.hostile_task.specs.declared.page.TurnedPage.{TurnedPage}
 use Rattle.hostile_task.specs.Pages.{IsRetiredOf}
@@ -21,7 +21,7 @@ loop-page-preserved c = record {
   left = grind (arith, common_steps);
   room = grind (arith, common_steps);
   pairs = subst (λ (ends : List RetiredEnd). EachPair IsRetiredOf (c.args.self.control ∷ (c.loop-page.yielded ++ c.in-Some.page ∷ [])) ends) (sym c.push_reserved-in-loop-page.ensures.items)
-      (pairs-push IsRetiredOf (c.args.self.control ∷ c.loop-page.yielded) c.loop-page.ends.items c.in-Some.page c.retire-in-loop-page.result c.loop-page.invariant.pairs c.retire-in-loop-page.ensures);
+      (pairs_push IsRetiredOf (c.args.self.control ∷ c.loop-page.yielded) c.loop-page.ends.items c.in-Some.page c.retire-in-loop-page.result c.loop-page.invariant.pairs c.retire-in-loop-page.ensures);
 }
 
 pub returns : goal.returns

@@ -1,12 +1,12 @@
 -- Each end is signalled in its turn, and the others are still as they were.
 use Rattle.std.proofs.Common.{◌≡◌, List, [], ◌∷◌, length, map, ap, ◌∙◌, arith}
-use Rattle.list_laws.proofs.Each.{map-each, each-weaker}
+use Rattle.list_laws.proofs.Each.{map_each, each_weaker}
 use Rattle.ring_words.specs.declared.page.Role.{Role}
 use Rattle.vchan_protocol.specs.Table.Ends.{peer_pending}
 use Rattle.task_duties.specs.Hostile.Stores.{stored, role_at}
 use Rattle.hostile_task.specs.Pages.{after_events}
 use Rattle.hostile_task.specs.declared.page.TurnedPage.{TurnedPage}
-use Rattle.hostile_task.proofs.ListLaws.{written_back, map_first-all, map_more}
+use Rattle.hostile_task.proofs.ListLaws.{written_back, map_first_all, map_more}
 use Rattle.hostile_task.proofs.pages.Pages.signal.Goals as goal
 
 signalled : Role → TurnedPage → TurnedPage
@@ -26,8 +26,8 @@ returns c domain roles =
       control = c.signal.ensures ∙ ap (λ (r : Role). signalled r c.args.self.now.control) roles.0;
       payload =
           written_back c.args.self.now.payload.len c.loop-payload.payload-items c.args.self.now.payload.items (omega (arith, c.args.self.now.payload.ok.0, c.loop-payload.auto.payload-items, ap length c.deref_mut-payload-items.ensures.value))
-          ∙ c.loop-payload.invariant ∙ map_first-all change c.loop-payload.payload-index c.deref_mut-payload-items.result.now (omega arith)
+          ∙ c.loop-payload.invariant ∙ map_first_all change c.loop-payload.payload-index c.deref_mut-payload-items.result.now (omega arith)
           ∙ ap (λ (ps : List TurnedPage). map change ps) c.deref_mut-payload-items.ensures.value
-          ∙ map-each change wanted c.args.self.now.payload.items
-          (each-weaker (λ p. p.end.side.role ≡ role_at domain p.place) (λ p. change p ≡ wanted p) (λ p is. ap (λ (r : Role). signalled r p) is) c.args.self.now.payload.items roles.1);
+          ∙ map_each change wanted c.args.self.now.payload.items
+          (each_weaker (λ p. p.end.side.role ≡ role_at domain p.place) (λ p. change p ≡ wanted p) (λ p is. ap (λ (r : Role). signalled r p) is) c.args.self.now.payload.items roles.1);
     }

@@ -3,8 +3,8 @@ use Rattle.std.proofs.Common.{◌≡◌, List, [], ◌∷◌, ◌++◌, subst, s
 use Rattle.std.proofs.lemmas.Grind.{common_steps}
 use Rattle.std.proofs.Common.{arith}
 use Rattle.std.specs.List.{AllZip as EachPair, AllByRecursion as Each}
-use Rattle.list_laws.proofs.Results.{no-items}
-use Rattle.list_laws.proofs.Pairs.{pairs-push}
+use Rattle.list_laws.proofs.Results.{no_items}
+use Rattle.list_laws.proofs.Pairs.{pairs_push}
 use Rattle.task_duties.specs.declared.ends.DataEnd.{DataEnd}
 use Rattle.hostile_task.specs.declared.page.TurnedPage.{TurnedPage}
 use Rattle.hostile_task.specs.Pages.{IsDataTurnedOver, IsLaid}
@@ -25,12 +25,12 @@ loop-given-preserved c = record {
   room = grind (arith, common_steps);
   laid = (subst (Each IsLaid) c.in-Some.ensures.steps.0 c.loop-given.invariant.laid).1;
   pairs = subst (λ (ps : List TurnedPage). EachPair IsDataTurnedOver (c.loop-given.yielded ++ c.in-Some.given ∷ []) ps) (sym c.push_reserved.ensures.items)
-      (pairs-push IsDataTurnedOver c.loop-given.yielded c.loop-given.turned.items c.in-Some.given c.of_data.result c.loop-given.invariant.pairs c.of_data.ensures);
+      (pairs_push IsDataTurnedOver c.loop-given.yielded c.loop-given.turned.items c.in-Some.given c.of_data.result c.loop-given.invariant.pairs c.of_data.ensures);
 }
 
 pub returns-clause-payload : goal.returns-clause-payload
 returns-clause-payload c =
-    let all : c.loop-given.yielded ≡ c.args.payload.items = whole_list _ _ _ c.loop-given.invariant.left (no-items c.loop-given.given-iterator c.in-None.ensures.steps.0) in
+    let all : c.loop-given.yielded ≡ c.args.payload.items = whole_list _ _ _ c.loop-given.invariant.left (no_items c.loop-given.given-iterator c.in-None.ensures.steps.0) in
     subst (λ (ends : List DataEnd). EachPair IsDataTurnedOver ends c.loop-given.turned.items) all c.loop-given.invariant.pairs
 
 pub of_data-requires : goal.of_data-requires

@@ -1,6 +1,6 @@
-use Rattle.qrexec_data.proofs.LaidLaws.{stands-gone}
+use Rattle.qrexec_data.proofs.LaidLaws.{stands_gone}
 use Rattle.qrexec_data.proofs.serving.Serving.advance.Goals as goal
 
 pub returns-clause-stands : goal.returns-clause-stands
 returns-clause-stands g c = λ owed sent stands.
-    stands-gone g.S.Service.owes owed c.args.self.now _ c.advance.new.self sent c.args.count c.self.view_is c.advance.ensures stands
+    stands_gone g.S.Service.owes owed c.args.self.now _ c.advance.new.self sent c.args.count c.self.view_is c.advance.ensures stands

@@ -3,8 +3,8 @@ use Rattle.std.proofs.lemmas.List.{take_rest, drop-drop}
 use Rattle.std.proofs.lemmas.Result.{err_from_is_err_and}
 use Rattle.qrexec_frame.specs.Fronts.{made}
 use Rattle.qrexec_frame.specs.Decoding.{DecoderState, after_message}
-use Rattle.qrexec_frame.proofs.DecodingLaws.{spelled-fits}
-use Rattle.qrexec_frame.proofs.GrammarLaws.{front-spelled}
+use Rattle.qrexec_frame.proofs.DecodingLaws.{spelled_fits}
+use Rattle.qrexec_frame.proofs.GrammarLaws.{front_spelled}
 use Rattle.qrexec_frame.proofs.decoder.Decoder.give.Goals as goal
 
 pub returns-in_err-message-in-Ok-Some-clause-answer : goal.returns-in_err-message-in-Ok-Some-clause-answer
@@ -32,5 +32,5 @@ returns-in_ok-message-in-Ok-Some-clause-answer c = λ sound.
 pub returns-in_ok-message-in-Ok-Some-clause-fits : goal.returns-in_ok-message-in-Ok-Some-clause-fits
 returns-in_ok-message-in-Ok-Some-clause-fits c =
     let body = rw c.in-Ok-Some.field-0-is at c.in-Ok-Some.ensures in
-    let found = front-spelled _ _ _ _ body.whole in
-    (rw c.in_ok-message-in-Ok-Some.ensures.made (spelled-fits _ _ _ found.2), c.in_ok-message-in-Ok-Some.ensures.numbers)
+    let found = front_spelled _ _ _ _ body.whole in
+    (rw c.in_ok-message-in-Ok-Some.ensures.made (spelled_fits _ _ _ found.2), c.in_ok-message-in-Ok-Some.ensures.numbers)

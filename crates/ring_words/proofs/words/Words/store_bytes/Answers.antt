@@ -5,7 +5,7 @@ use Rattle.ring_words.specs.PageWords.{PageWords}
 use Rattle.ring_words.specs.Laid.{laid}
 use Rattle.ring_words.specs.declared.order.Orders.{Orders}
 use Rattle.ring_words.specs.declared.page.WordName.TheVariants.{RingByte}
-use Rattle.ring_words.proofs.LaidLaws.{laid_more, length-laid}
+use Rattle.ring_words.proofs.LaidLaws.{laid_more, length_laid}
 use Rattle.ring_words.proofs.words.Words.store_bytes.Goals as goal
 
 -- once the loop is done, all bytes are stored
@@ -15,7 +15,7 @@ all_stored c = c.loop-i.invariant.stored ∙ ap (λ (l : List ℕ). laid c.self.
 as_many : (c : goal.After-loop-i) → length c.loop-i.self-inside.list.items ≡ word_count c.loop-i.self-inside.orders
 as_many c =
     let before : length c.self.inside.list.items ≡ word_count c.self.inside.orders = omega (arith, c.self.invariant) in
-    ap (λ (l : List ℕ). length l) (all_stored c) ∙ length-laid c.self.inside.list.items c.word-first.result c.args.bytes.now ∙ before
+    ap (λ (l : List ℕ). length l) (all_stored c) ∙ length_laid c.self.inside.list.items c.word-first.result c.args.bytes.now ∙ before
     ∙ ap word_count (sym c.loop-i.invariant.orders)
 
 pub invariant_of-self : goal.invariant_of-self

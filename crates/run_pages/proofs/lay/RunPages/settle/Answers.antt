@@ -5,13 +5,13 @@ use Rattle.run_pages.specs.Pages.{page_at}
 use Rattle.run_pages.specs.Settling.{AreSettledBy, GivesUpBoth, HasEnd, IsSettling}
 use Rattle.std.proofs.lemmas.Grind.{common_steps}
 use Rattle.std.proofs.lemmas.List.{map-append, length-map}
-use Rattle.run_pages.proofs.SettleLaws.{GaveBoth, IsLastPage, gave-both, last-laid, last-page, settles-all, settles-first, settles-on}
+use Rattle.run_pages.proofs.SettleLaws.{GaveBoth, IsLastPage, gave_both, last_laid, last_page, settles_all, settles_first, settles_on}
 use Rattle.run_pages.proofs.lay.RunPages.settle.Goals as goal
 
 pub loop-page-init : goal.loop-page-init
 loop-page-init c =
     let hands = map (λ h. all_retired h.items) c.args.given_back.items in
-    let first = settles-first c.args.scenario.now c.args.self hands c.requires.laid (length-map c.args.given_back.items (λ h. all_retired h.items) ∙ c.requires.all) c.requires.back in
+    let first = settles_first c.args.scenario.now c.args.self hands c.requires.laid (length-map c.args.given_back.items (λ h. all_retired h.items) ∙ c.requires.all) c.requires.back in
     subst (λ left. IsSettling c.args.scenario.now (map page_at c.self.inside.pages.items) c.args.self (map (λ h. all_retired h.items) left) hands c.in_ok-settled.settled.items) (sym c.as_mut_slice-left.ensures.value)
     (subst (λ pages. IsSettling c.args.scenario.now pages c.args.self hands hands c.in_ok-settled.settled.items) (sym c.self.view_is)
     (subst (λ settled. IsSettling c.args.scenario.now c.args.self c.args.self hands hands settled) (sym c.in_ok-settled.ensures.items) first))
@@ -19,7 +19,7 @@ loop-page-init c =
 -- the page that is taken is the last
 last : (c : goal.After-take_ends-arg-1) → IsLastPage (map page_at c.pop.new.self.items) (page_at c.in-Some.page) (map (λ h. all_retired h.items) c.loop-page.left)
 last c =
-    last-page c.args.scenario.now (map page_at c.loop-page.pages.items) c.args.self (map page_at c.pop.new.self.items) (page_at c.in-Some.page) (map (λ h. all_retired h.items) c.loop-page.left)
+    last_page c.args.scenario.now (map page_at c.loop-page.pages.items) c.args.self (map page_at c.pop.new.self.items) (page_at c.in-Some.page) (map (λ h. all_retired h.items) c.loop-page.left)
     (map (λ h. all_retired h.items) c.args.given_back.items) c.loop-page.settled.items
     (ap (map page_at) c.in-Some.ensures.items ∙ map-append page_at c.pop.new.self.items (c.in-Some.page ∷ [])) c.loop-page.invariant
 
@@ -48,15 +48,15 @@ gave : (c : goal.After-settled-in-Some-1) → GaveBoth (page_at c.in-Some.page) 
 gave c =
     let before = map page_at c.pop.new.self.items in
     let hands = map (λ h. all_retired h.items) c.loop-page.left in
-    let last = last-page c.args.scenario.now (map page_at c.loop-page.pages.items) c.args.self before (page_at c.in-Some.page) hands (map (λ h. all_retired h.items) c.args.given_back.items) c.loop-page.settled.items
+    let last = last_page c.args.scenario.now (map page_at c.loop-page.pages.items) c.args.self before (page_at c.in-Some.page) hands (map (λ h. all_retired h.items) c.args.given_back.items) c.loop-page.settled.items
     (ap (map page_at) c.in-Some.ensures.items ∙ map-append page_at c.pop.new.self.items (c.in-Some.page ∷ [])) c.loop-page.invariant in
-    gave-both before (page_at c.in-Some.page) (retired_at c.take_ends-server.result.0) (retired_at c.take_ends-server.result.1) hands (map (λ h. all_retired h.items) c.take_ends-server.new.hands) last (gives c)
+    gave_both before (page_at c.in-Some.page) (retired_at c.take_ends-server.result.0) (retired_at c.take_ends-server.result.1) hands (map (λ h. all_retired h.items) c.take_ends-server.new.hands) last (gives c)
 
 pub settle_page-requires-clause-made : goal.settle_page-requires-clause-made
 settle_page-requires-clause-made c = (
   c.args.scenario.now,
   c.requires.starts,
-  last-laid c.args.scenario.now (map page_at c.loop-page.pages.items) c.args.self (map page_at c.pop.new.self.items) (page_at c.in-Some.page) (map (λ h. all_retired h.items) c.loop-page.left)
+  last_laid c.args.scenario.now (map page_at c.loop-page.pages.items) c.args.self (map page_at c.pop.new.self.items) (page_at c.in-Some.page) (map (λ h. all_retired h.items) c.loop-page.left)
       (map (λ h. all_retired h.items) c.args.given_back.items) c.loop-page.settled.items
       (ap (map page_at) c.in-Some.ensures.items ∙ map-append page_at c.pop.new.self.items (c.in-Some.page ∷ [])) c.loop-page.invariant,
 )
@@ -74,7 +74,7 @@ loop-page-preserved c =
     let gives = subst (λ place. GivesUpBoth place (retired_at c.take_ends-server.result.0) (retired_at c.take_ends-server.result.1) (map (λ h. all_retired h.items) c.loop-page.left) hands')
     c.place-place.ensures c.take_ends-server.ensures in
     subst (λ settled. IsSettling c.args.scenario.now (map page_at c.pop.new.self.items) c.args.self hands' first settled) (sym c.in_ok-push.ensures.items)
-    (settles-on c.args.scenario.now (map page_at c.loop-page.pages.items) c.args.self (map page_at c.pop.new.self.items) (page_at c.in-Some.page)
+    (settles_on c.args.scenario.now (map page_at c.loop-page.pages.items) c.args.self (map page_at c.pop.new.self.items) (page_at c.in-Some.page)
     (retired_at c.take_ends-server.result.0) (retired_at c.take_ends-server.result.1) c.in_ok-settle_page.field-0 (map (λ h. all_retired h.items) c.loop-page.left) hands' first c.loop-page.settled.items
     (ap (map page_at) c.in-Some.ensures.items ∙ map-append page_at c.pop.new.self.items (c.in-Some.page ∷ [])) c.loop-page.invariant gives c.in_ok-settle_page.ensures)
 
@@ -84,4 +84,4 @@ returns c =
     let first = map (λ h. all_retired h.items) c.args.given_back.items in
     let inv = subst (λ pages. IsSettling c.args.scenario.now (map page_at pages) c.args.self (map (λ h. all_retired h.items) c.loop-page.left) first c.loop-page.settled.items) left c.loop-page.invariant in
     subst (AreSettledBy c.args.scenario.now c.args.self first) (sym c.reverse.ensures.items)
-    (settles-all c.args.scenario.now c.args.self (map (λ h. all_retired h.items) c.loop-page.left) first c.loop-page.settled.items inv)
+    (settles_all c.args.scenario.now c.args.self (map (λ h. all_retired h.items) c.loop-page.left) first c.loop-page.settled.items inv)

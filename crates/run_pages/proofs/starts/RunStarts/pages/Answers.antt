@@ -2,7 +2,7 @@ use Rattle.std.proofs.Common.{◌≡◌, ◌<◌, ◌+◌, ◌++◌, ◌∷◌, 
 use Rattle.std.proofs.lemmas.List.{take_all, take_more}
 use Rattle.std.proofs.lemmas.Grind.{common_steps}
 use Rattle.run_pages.specs.Pages.{IsLaying, page_at}
-use Rattle.run_pages.proofs.LayLaws.{lay-more}
+use Rattle.run_pages.proofs.LayLaws.{lay_more}
 use Rattle.std.proofs.lemmas.List.{map-append}
 use Rattle.run_pages.proofs.starts.RunStarts.pages.Goals as goal
 
@@ -21,7 +21,7 @@ loop-place-preserved c = λ starts.
     subst (λ places. IsLaying s places (map page_at c.push.new.self.items) c.push-in-loop-place.new.self.items) (sym taken)
     (subst (λ pages. IsLaying s (take k items ++ page.place ∷ []) pages c.push-in-loop-place.new.self.items) (sym pages)
     (subst (λ seats. IsLaying s (take k items ++ page.place ∷ []) (map page_at c.loop-place.pages.items ++ page ∷ []) seats) (sym c.in_ok-push-2.ensures.items)
-    (lay-more s (take k items) (map page_at c.loop-place.pages.items) c.loop-place.seats.items page c.in_ok-page.seats_of_page made.laid made.seated (c.loop-place.invariant starts))))
+    (lay_more s (take k items) (map page_at c.loop-place.pages.items) c.loop-place.seats.items page c.in_ok-page.seats_of_page made.laid made.seated (c.loop-place.invariant starts))))
 
 pub returns : goal.returns
 returns c = λ starts.

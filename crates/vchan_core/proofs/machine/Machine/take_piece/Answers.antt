@@ -8,7 +8,7 @@ use Rattle.ring_words.specs.declared.order.Orders.{Orders}
 use Rattle.ring_words.specs.declared.page.Ring.{Ring}
 use Rattle.ring_words.specs.declared.page.WordName.TheVariants.{RingByte}
 use Rattle.ring_words.proofs.RingLaws.{place_wraps, place_on}
-use Rattle.ring_words.proofs.LaidLaws.{laid_is, length-low_bytes}
+use Rattle.ring_words.proofs.LaidLaws.{laid_is, length_low_bytes}
 use Rattle.vchan_protocol.specs.Table.Ends.{read_order, read_ring}
 use Rattle.vchan_core.specs.OneMachine.Phases.{standing}
 use Rattle.vchan_core.specs.WholeCall.EventsMade.{MakesEvents}
@@ -39,7 +39,7 @@ returns-clause-events c = λ count within enough answer payload.
     ∙ ap (λ (n : ℕ). low_bytes list (index_of c.args.words.now.orders (RingByte c.read_as-ring.result first)) n) room
     ∙ ap (λ (o : Orders). low_bytes list (index_of o (RingByte c.read_as-ring.result first)) len) c.requires.orders
     ∙ ap (λ (r : Ring). low_bytes list (index_of m.orders (RingByte r first)) len) c.read_as-ring.ensures in
-    let as_many = length-low_bytes list index len in
+    let as_many = length_low_bytes list index len in
     let laid_so : take at buffer ++ (c.load_bytes.new.buf ++ drop (at + len - at) (drop at buffer)) ≡ laid buffer at (low_bytes list index len) =
     ap (λ (l : List ℕ). take at buffer ++ (l ++ drop (at + len - at) (drop at buffer))) loaded
     ∙ ap (λ (n : ℕ). take at buffer ++ (low_bytes list index len ++ drop n (drop at buffer))) (back ∙ sym as_many)

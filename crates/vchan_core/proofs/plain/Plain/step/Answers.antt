@@ -9,7 +9,7 @@ use Rattle.vchan_protocol.specs.Table.Apply.{Fits, words_after, value_taken}
 use Rattle.vchan_protocol.specs.History.Core.{Core, answer_in, plan_next}
 use Rattle.vchan_core.specs.Page.StandsFor.{machine_of, orders_of, words_of, StandsFor}
 use Rattle.vchan_core.specs.OneMachine.Phases.{rest, IsIdle, payload_needed, buffer_needed}
-use Rattle.vchan_protocol.proofs.History.EventLaws.{Fits-more}
+use Rattle.vchan_protocol.proofs.History.EventLaws.{Fits_more}
 use Rattle.vchan_core.proofs.Page.StepLaws.{DoesEvent, stands_server, stands_client, answer_is, keeps_orders, keeps_role}
 use Rattle.vchan_core.proofs.Page.PlainLaws.{invariant_step}
 use Rattle.vchan_core.proofs.plain.Plain.step.Goals as goal
@@ -98,7 +98,7 @@ returns-in-Server-clause-footprint c =
     let there = subst (λ (orders : Orders). Fits orders (payload_needed page.server) (buffer_needed page.server) c.next-op.result) page.server_orders here in
     let out = subst (λ (who : Role). payload_needed (machine_of page who) ≤ length c.args.payload.now) c.in-Server.is c.requires.payload in
     let into = subst (λ (who : Role). buffer_needed (machine_of page who) ≤ length c.args.buf.now) c.in-Server.is c.requires.buf in
-    let more = Fits-more (orders_of page) (payload_needed page.server) (buffer_needed page.server) (length c.args.payload.now) (length c.args.buf.now) c.next-op.result out into there in
+    let more = Fits_more (orders_of page) (payload_needed page.server) (buffer_needed page.server) (length c.args.payload.now) (length c.args.buf.now) c.next-op.result out into there in
     subst (λ (op : Op). Fits (orders_of page) (length c.args.payload.now) (length c.args.buf.now) op) (c.next-op.ensures.op ∙ ap (λ (m : Machine). next_op (rest m)) c.machine.ensures) more
 
 pub returns-in-Client-clause-footprint : goal.returns-in-Client-clause-footprint
@@ -109,7 +109,7 @@ returns-in-Client-clause-footprint c =
     let there = subst (λ (orders : Orders). Fits orders (payload_needed page.client) (buffer_needed page.client) c.next-op.result) page.client_orders here in
     let out = subst (λ (who : Role). payload_needed (machine_of page who) ≤ length c.args.payload.now) c.in-Client.is c.requires.payload in
     let into = subst (λ (who : Role). buffer_needed (machine_of page who) ≤ length c.args.buf.now) c.in-Client.is c.requires.buf in
-    let more = Fits-more (orders_of page) (payload_needed page.client) (buffer_needed page.client) (length c.args.payload.now) (length c.args.buf.now) c.next-op.result out into there in
+    let more = Fits_more (orders_of page) (payload_needed page.client) (buffer_needed page.client) (length c.args.payload.now) (length c.args.buf.now) c.next-op.result out into there in
     subst (λ (op : Op). Fits (orders_of page) (length c.args.payload.now) (length c.args.buf.now) op) (c.next-op.ensures.op ∙ ap (λ (m : Machine). next_op (rest m)) c.machine.ensures) more
 
 pub returns-in-Server-clause-invariant : goal.returns-in-Server-clause-invariant

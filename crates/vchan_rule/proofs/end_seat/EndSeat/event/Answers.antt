@@ -7,7 +7,7 @@ use Rattle.vchan_core.specs.Page.StandsFor.{HasPayload}
 use Rattle.vchan_protocol.specs.Table.Apply.{Fits}
 use Rattle.vchan_protocol.specs.History.Core.{op_next, plan_left, answer_in, sets_gone}
 use Rattle.vchan_core.specs.OneMachine.Phases.{payload_needed, buffer_needed}
-use Rattle.vchan_protocol.proofs.History.EventLaws.{Fits-more}
+use Rattle.vchan_protocol.proofs.History.EventLaws.{Fits_more}
 use Rattle.vchan_rule.specs.declared.rule.View.TheVariants.{One}
 use Rattle.vchan_protocol.specs.History.Core.{side_after}
 use Rattle.vchan_rule.specs.Ends.{end_in, seen, seen_by, Agrees}
@@ -40,7 +40,7 @@ perform-value-requires-clause-fits c =
     let h = inside c.args.words.now.key.start c.self.inside.begun.value m (end_in c.self.inside.seat.me.0) c.args.payload.now r.agrees r.pays (λ i. let low = c.type_inv.payload i in omega (arith, low)) in (
       buffer_needed m,
       subst (λ (o : Orders). Fits o (length c.args.payload.now) (buffer_needed m) c.next-op.result) (machine_orders _ m _ _ _ h ∙ v.1)
-          (Fits-more m.orders (payload_needed m) (buffer_needed m) (length c.args.payload.now) (buffer_needed m) c.next-op.result r.out (omega arith) c.next-op.ensures.fits),
+          (Fits_more m.orders (payload_needed m) (buffer_needed m) (length c.args.payload.now) (buffer_needed m) c.next-op.result r.out (omega arith) c.next-op.ensures.fits),
     )
 
 pub perform-value-requires-clause-payload : goal.perform-value-requires-clause-payload
@@ -101,7 +101,7 @@ pub land-requires : goal.land-requires
 land-requires c =
     let m = c.args.machine.now in
     let r = subst (λ (e : SeatedCall). IsReady (driven c.args.words.now.key.start e c.args.machine.now) c.args.payload.now c.args.buf.now) (sym c.self.view_is) c.requires.ready in
-    (m.orders, payload_needed m, Fits-more m.orders (payload_needed m) (buffer_needed m) (payload_needed m) (length c.args.buf.now) c.next-op.result (omega arith) r.into c.next-op.ensures.fits)
+    (m.orders, payload_needed m, Fits_more m.orders (payload_needed m) (buffer_needed m) (payload_needed m) (length c.args.buf.now) c.next-op.result (omega arith) r.into c.next-op.ensures.fits)
 
 pub returns-clause-goes_on : goal.returns-clause-goes_on
 returns-clause-goes_on c =

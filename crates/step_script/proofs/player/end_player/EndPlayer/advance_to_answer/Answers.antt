@@ -1,4 +1,5 @@
 use Rattle.std.proofs.Common.{◌≡◌, Option, Some, None, sym, ◌∙◌, ap, subst}
+use Rattle.std.proofs.lemmas.Option.{none-some, same_Some}
 use Rattle.ring_words.specs.declared.page.Role.{Role}
 use Rattle.vchan_protocol.specs.declared.call.Answer.{Answer}
 use Rattle.vchan_core.specs.declared.plain.Plain.{Plain}
@@ -17,19 +18,13 @@ out : (core : Core) (who : Role) (page : Plain) (end_player : EndPlayer) → IsA
     → stepped 4294967295 core who ≡ ((alone core who (plan_left (side_of core who))).0, Some (alone core who (plan_left (side_of core who))).1)
 out core who page end_player h busy = stepped_out core who (machine_of page who) (machine_stands core page who h.stands) busy
 
-some-inj : (x y : Answer) → Some x ≡ Some y → x ≡ y
-some-inj x y is = cc
-
-none-some : (x : Answer) → None ≡ Some x → ⊥
-none-some x is = cc
-
 pub returns-in-Some-clause-at : goal.returns-in-Some-clause-at
 returns-in-Some-clause-at c = λ core h.
     subst (λ (p : Core × Option Answer). IsAt p.0 c.args.who c.advance.new.page c.advance.new.self) (out core c.args.who c.args.page.now c.args.self.now h c.requires.busy) (c.advance.ensures.at core h)
 
 pub returns-in-Some-clause-answer : goal.returns-in-Some-clause-answer
 returns-in-Some-clause-answer c = λ core h.
-    some-inj _ _ (sym c.in-Some.is ∙ c.advance.ensures.answer core h ∙ ap (λ (p : Core × Option Answer). p.1) (out core c.args.who c.args.page.now c.args.self.now h c.requires.busy))
+    same_Some _ _ (sym c.in-Some.is ∙ c.advance.ensures.answer core h ∙ ap (λ (p : Core × Option Answer). p.1) (out core c.args.who c.args.page.now c.args.self.now h c.requires.busy))
 
 pub returns-in-Some-clause-taken : goal.returns-in-Some-clause-taken
 returns-in-Some-clause-taken c = λ core h.

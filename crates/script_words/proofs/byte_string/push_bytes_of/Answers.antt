@@ -3,7 +3,7 @@ use Rattle.std.specs.Result.{IfErr}
 use Rattle.std.proofs.lemmas.Bool.Decides.{nat_tests}
 use Rattle.script_words.specs.ByteStrings.{at_most, has_star, IsPushRefusal}
 use Rattle.script_words.proofs.PairLaws.{gains_within, starred}
-use Rattle.script_words.proofs.byte_string.push_bytes.Goals as goal
+use Rattle.script_words.proofs.byte_string.push_bytes_of.Goals as goal
 
 pub returns-then-word-eq42-clause-bad : goal.returns-then-word-eq42-clause-bad
 returns-then-word-eq42-clause-bad c =
