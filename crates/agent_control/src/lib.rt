@@ -7,6 +7,5 @@
 #![tactic(auto)]
 
 mod control;
-mod speech;
 
 pub use control::AgentControl;

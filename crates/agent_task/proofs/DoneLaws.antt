@@ -15,7 +15,7 @@ use Rattle.task_duties.specs.declared.place.PagePlace.TheVariants.{Control, Payl
 use Rattle.task_duties.specs.declared.done.ServedDone.{ServedDone}
 use Rattle.task_duties.specs.declared.done.ControlEnd.{ControlEnd}
 use Rattle.task_duties.specs.declared.done.ControlEnd.TheVariants.{Fault}
-use Rattle.qrexec_data.specs.declared.fault.SessionFault.{SessionFault}
+use Rattle.qrexec_data.specs.declared.outcome.SessionFault.{SessionFault}
 use Rattle.task_duties.specs.Places.{is_place}
 use Rattle.task_duties.specs.Hearing.{to_agent, to_broker, IsSaid, Heard, hears}
 use Rattle.task_duties.specs.TaskOwes.{EndAt, AreEnds, EndsOwed, AreGivenBack, places_in}
@@ -38,7 +38,7 @@ use Rattle.data_slots.specs.Done.{AreBack, ReportsCalled, ReportsServes}
 use Rattle.data_slots.specs.declared.done.CallOver.{CallOver}
 use Rattle.data_slots.proofs.AgentLaws.{same_ends, end_there}
 use Rattle.agent_task.specs.declared.agent.Agent.{Agent}
-use Rattle.agent_task.specs.declared.given.Given.{Given}
+use Rattle.agent_task.specs.declared.agent.Given.{Given}
 use Rattle.agent_task.specs.declared.task.AgentDone.{AgentDone}
 use Rattle.agent_task.specs.Given.{data_ends, plan_of, ends_of}
 use Rattle.agent_task.specs.Standing.{Stands, IsServedBy, CanGiveUp, called_by, called_of}

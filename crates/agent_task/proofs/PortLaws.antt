@@ -17,7 +17,7 @@ use Rattle.control_port.specs.Port.{PortState, HasSaid, HasHeard, HasHeardAll, O
 use Rattle.control_port.specs.Talking.{may_hear}
 use Rattle.control_port.specs.declared.talk.Talker.{Talker}
 use Rattle.control_port.proofs.PortLaws.{said_still}
-use Rattle.qrexec_data.specs.declared.fault.SessionFault.{SessionFault}
+use Rattle.qrexec_data.specs.declared.outcome.SessionFault.{SessionFault}
 use Rattle.task_duties.specs.Hearing.{hears}
 use Rattle.agent_task.specs.declared.agent.Agent.{Agent}
 use Rattle.agent_task.specs.Standing.{Stands, IsHearing, Awaits, HasHeardOut, IsUp}

@@ -3,7 +3,7 @@ use Rattle.std.proofs.Common.{◌≡◌, ℕ, List, ◌++◌, refl, ap, sym, ◌
 use Rattle.std.specs.Prelude.{false, map}
 use Rattle.list_laws.specs.Lists.{AreDifferent}
 use Rattle.qrexec_frame.specs.declared.message.Message.{Message}
-use Rattle.qrexec_data.specs.declared.fault.SessionFault.{SessionFault}
+use Rattle.qrexec_data.specs.declared.outcome.SessionFault.{SessionFault}
 use Rattle.vchan_rule.specs.Seated.{view, IsOpen}
 use Rattle.vchan_rule.specs.Ends.{IsSameEnd}
 use Rattle.vchan_rule.proofs.EndLaws.{same_end_then}
@@ -21,7 +21,7 @@ use Rattle.agent_control.specs.declared.control.AgentControl.{AgentControl}
 use Rattle.agent_control.specs.Speaking.{SaysMore}
 use Rattle.data_slots.specs.Slots.{held_at}
 use Rattle.agent_task.specs.declared.agent.Agent.{Agent}
-use Rattle.agent_task.specs.declared.given.Given.{Given}
+use Rattle.agent_task.specs.declared.agent.Given.{Given}
 use Rattle.agent_task.specs.Given.{data_ends}
 use Rattle.agent_task.specs.Standing.{IsHearing, HasHeardOut, IsUp, HasSameEnds, CanRest, CanGiveUp}
 use Rattle.agent_task.specs.Ending.{HasEnded, end_by, over_by, IsDrained, heard_at, IsOver, IsRunning, RunsAs}

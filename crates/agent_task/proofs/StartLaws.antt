@@ -12,7 +12,7 @@ use Rattle.task_duties.specs.TaskOwes.{places_in}
 use Rattle.task_duties.specs.Agent.Answers.{Waits, Asked}
 use Rattle.control_port.specs.Port.{PortState, HasSaid, HasHeard, HasHeardAll}
 use Rattle.control_port.specs.Talking.{may_hear}
-use Rattle.qrexec_data.specs.declared.fault.SessionFault.{SessionFault}
+use Rattle.qrexec_data.specs.declared.outcome.SessionFault.{SessionFault}
 use Rattle.task_duties.specs.Hearing.{hears}
 use Rattle.control_port.specs.declared.talk.Talker.TheVariants.{Agent as OfAgent}
 use Rattle.call_queue.specs.Queue.{QueueState, fresh, asked_as, asked_by}
@@ -20,7 +20,7 @@ use Rattle.data_slots.specs.Sessions.{NotBegun}
 use Rattle.data_slots.specs.Slots.{Called, SlotsState, held_at, AreApart}
 use Rattle.agent_control.specs.Speaking.{IsTellable}
 use Rattle.agent_task.specs.declared.agent.Agent.{Agent}
-use Rattle.agent_task.specs.declared.given.Given.{Given}
+use Rattle.agent_task.specs.declared.agent.Given.{Given}
 use Rattle.agent_task.specs.Starting.{IsNewQueue, IsNew}
 use Rattle.agent_task.specs.Standing.{called_of, IsServedBy, AreAskedFor}
 use Rattle.agent_task.specs.Ending.{IsRunning}

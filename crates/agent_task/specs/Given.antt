@@ -5,7 +5,7 @@ use Rattle.vchan_rule.specs.Seated.{view}
 use Rattle.task_duties.specs.Agent.Given.{AgentPlan}
 use Rattle.task_duties.specs.TaskOwes.{TaskGiven, EndAt, Agent as AgentWith, places_in, all_ends}
 use Rattle.task_duties.specs.GivenEnds.{all_given}
-use Rattle.agent_task.specs.declared.given.Given.{Given}
+use Rattle.agent_task.specs.declared.agent.Given.{Given}
 
 -- the data ends as they were given
 abbrev pub data_ends : Given → List EndAt

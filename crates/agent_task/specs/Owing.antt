@@ -2,7 +2,7 @@
 -- Source: this project's own.
 use Rattle.task_duties.specs.TaskOwes.{TaskOwes, Agent, AgentDone as IsDone, AgentReport}
 use Rattle.task_duties.specs.GivenEnds.{all_retired}
-use Rattle.agent_task.specs.declared.given.Given.{Given}
+use Rattle.agent_task.specs.declared.agent.Given.{Given}
 use Rattle.agent_task.specs.declared.task.AgentDone.{AgentDone}
 use Rattle.agent_task.specs.Given.{plan_of, ends_of}
 

@@ -21,7 +21,7 @@ use Rattle.call_queue.specs.Queue.{QueueState, asked_by}
 use Rattle.data_slots.specs.Sessions.{KeepsSessions}
 use Rattle.data_slots.specs.Slots.{Called, Serves, SlotsState, held_at, AreApart}
 use Rattle.agent_control.specs.Speaking.{Speaks}
-use Rattle.agent_task.specs.declared.given.Given.{Given}
+use Rattle.agent_task.specs.declared.agent.Given.{Given}
 use Rattle.agent_task.specs.declared.agent.Agent.{Agent}
 use Rattle.agent_task.specs.Given.{data_ends, plan_of}
 use Rattle.agent_task.specs.Ends.{AreKept}

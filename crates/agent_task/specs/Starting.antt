@@ -15,7 +15,7 @@ use Rattle.call_queue.specs.Asking.{Asks}
 use Rattle.data_slots.specs.Sessions.{NotBegun}
 use Rattle.data_slots.specs.Sides.{late_places}
 use Rattle.data_slots.specs.Slots.{SlotsState, held_at, AreApart}
-use Rattle.agent_task.specs.declared.given.Given.{Given}
+use Rattle.agent_task.specs.declared.agent.Given.{Given}
 use Rattle.agent_task.specs.Given.{data_ends}
 
 -- a queue of these calls, none of which was requested

@@ -1,4 +1,4 @@
-//! An agent between two turns.
+//! An agent between two turns, and what it was given.
 ghost use Rattle.std.specs.Prelude.{◌≡◌, ◌≢◌, ◌⊎◌, ◌<◌, ◌++◌, [], Some, None, IfSome, OnOk, length};
 ghost use Rattle.agent_task.specs.Standing.{IsUp, CanGiveUp, HasSameEnds, KeepsPort, OnlyTells};
 ghost use Rattle.data_slots.specs.Agreeing.{Agrees};
@@ -8,12 +8,14 @@ ghost use Rattle.agent_task.specs.Moving.{SaysNoMore, TurnsControl, KeepsControl
 ghost use Rattle.agent_task.specs.State.{TurnsEach};
 ghost use Rattle.agent_task.specs.Ending.{IsRunning};
 
-use crate::given::Given;
 use agent_control::AgentControl;
 use data_slots::DataSlots;
+use scenario_file::CallPlan;
 use std::alloc::Global;
-use task_duties::{ControlEnd, SessionEnd};
+use std::snapshot::Snapshot;
+use task_duties::{ControlEnd, DataEnd, SessionEnd};
 use vchan_io::Memory;
+use vchan_rule::End;
 
 /// The number of sessions open on pages laid for them at which an agent requests no more calls, since each
 /// holds the memory of a page. It goes on serving, so no agent waits for another one's limit. Sessions with
@@ -23,6 +25,16 @@ const MOST_PAGES: usize = 8;
 /// The number of calls that it requests in a turn. A call that isn't answered yet isn't counted in the limit
 /// above, and holds a page as soon as it is let through.
 const MOST_ASKED: usize = 1;
+
+/// What an agent was given, which no turn changes.
+#[derive(Drop)]
+pub(crate) struct Given<'p> {
+    pub(crate) domain: u32,
+    pub(crate) version: u32,
+    pub(crate) calls: Snapshot<Vec<CallPlan>>,
+    pub(crate) control: Snapshot<End<'p>>,
+    pub(crate) payload: Snapshot<Vec<DataEnd<'p>>>,
+}
 
 /// The agent of a domain: its control channel with its calls, and its data ends.
 #[derive(Drop)]

@@ -9,7 +9,6 @@ mod agent;
 mod answering;
 mod boxed;
 mod finishing;
-mod given;
 mod hearing;
 mod line;
 mod task;

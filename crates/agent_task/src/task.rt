@@ -5,9 +5,8 @@ ghost use Rattle.list_laws.specs.Lists.{AreDifferent};
 ghost use Rattle.call_queue.specs.Queue.{FitsTrigger};
 ghost use Rattle.agent_task.specs.Starting.{IsNewQueue};
 
-use crate::agent::Agent;
+use crate::agent::{Agent, Given};
 use crate::boxed::{go_round, over_at, taken};
-use crate::given::Given;
 use agent_control::AgentControl;
 use call_queue::CallQueue;
 use control_port::{ControlPort, Talker};

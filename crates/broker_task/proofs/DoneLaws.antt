@@ -22,7 +22,7 @@ use Rattle.task_duties.specs.Broker.Owes.{broker_version, awaited_of, BrokerOwes
 use Rattle.task_duties.specs.TaskOwes.{Broker, IsSameEnd, AreEnds, broker_ends}
 use Rattle.task_duties.specs.GivenEnds.{retired_at}
 use Rattle.task_duties.proofs.Elements.{each_at, has_from}
-use Rattle.broker_task.specs.declared.letter.Letter.{Letter}
+use Rattle.broker_task.specs.declared.outbox.Letter.{Letter}
 use Rattle.broker_task.specs.declared.daemon.Daemon.{Daemon}
 use Rattle.broker_task.specs.declared.switchboard.Switchboard.{Switchboard}
 use Rattle.broker_task.specs.declared.task.BrokerTurn.{BrokerTurn}

@@ -21,7 +21,7 @@ use Rattle.control_port.specs.Port.{HasSaid}
 use Rattle.task_duties.specs.Hearing.{to_broker, hears}
 use Rattle.task_duties.specs.Broker.Outbox.{outbox, answered, event_of, read_from}
 use Rattle.task_duties.specs.Broker.Owes.{broker_version}
-use Rattle.broker_task.specs.declared.letter.Letter.{Letter}
+use Rattle.broker_task.specs.declared.outbox.Letter.{Letter}
 use Rattle.broker_task.specs.declared.daemon.Daemon.{Daemon}
 use Rattle.broker_task.specs.Letters.{messages_in, connects}
 use Rattle.broker_task.specs.Lines.{end_of, heard_by, is_gone, IsLine, HasRead, HasReadAll, IsSameDaemon}

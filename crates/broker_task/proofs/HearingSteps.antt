@@ -17,7 +17,7 @@ use Rattle.vchan_rule.specs.Seated.{SeatedEnd, view}
 use Rattle.control_port.specs.Port.{PortState, HasSaid, HasHeard, HasFewerLeft}
 use Rattle.task_duties.specs.Broker.Outbox.{outbox, read_from, is_from, event_of}
 use Rattle.broker_task.specs.declared.daemon.Daemon.{Daemon}
-use Rattle.broker_task.specs.declared.letter.Letter.{Letter}
+use Rattle.broker_task.specs.declared.outbox.Letter.{Letter}
 use Rattle.broker_task.specs.Letters.{IsAt, messages_in}
 use Rattle.broker_task.specs.Lines.{is_shut, IsLine, IsGoing, ReadsOn, HasRead, HandsOut, HasRoom, OnlyPort}
 use Rattle.broker_task.proofs.LineLaws.{read_still}

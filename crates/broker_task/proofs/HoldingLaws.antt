@@ -27,7 +27,7 @@ use Rattle.control_port.specs.Port.{PortState}
 use Rattle.task_duties.specs.Words.{exec_line}
 use Rattle.task_duties.specs.Broker.Outbox.{puts, only_if}
 use Rattle.task_duties.proofs.Elements.{Has, has_from, contains_from, has_left, has_right}
-use Rattle.broker_task.specs.declared.letter.Letter.{Letter}
+use Rattle.broker_task.specs.declared.outbox.Letter.{Letter}
 use Rattle.broker_task.specs.declared.daemon.Daemon.{Daemon}
 use Rattle.broker_task.specs.Letters.{IsAt, AreHeld, messages_in, connects, released}
 use Rattle.broker_task.specs.Lines.{is_shut, is_gone, SendsOne}

@@ -23,7 +23,7 @@ use Rattle.vchan_rule.specs.Called.{most_asked}
 use Rattle.qrexec_frame.specs.declared.message.Message.{Message}
 use Rattle.qrexec_frame.specs.Messages.{written}
 use Rattle.vchan_notify.specs.Notify.{HasFoundGone, asked_gone}
-use Rattle.broker_task.specs.declared.letter.Letter.{Letter}
+use Rattle.broker_task.specs.declared.outbox.Letter.{Letter}
 use Rattle.broker_task.specs.declared.daemon.Daemon.{Daemon}
 use Rattle.control_port.specs.Port.{PortState}
 use Rattle.control_port.proofs.DrainLaws.{got_more}

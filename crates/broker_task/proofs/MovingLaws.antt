@@ -7,7 +7,7 @@ use Rattle.vchan_lifecycle.specs.Lifecycle.{FindsNotYet}
 use Rattle.vchan_packet.proofs.FailingLaws.{sent_no_more}
 use Rattle.vchan_rule.specs.Seated.{SeatedEnd, view}
 use Rattle.control_port.specs.Port.{PortState}
-use Rattle.broker_task.specs.declared.letter.Letter.{Letter}
+use Rattle.broker_task.specs.declared.outbox.Letter.{Letter}
 use Rattle.broker_task.specs.declared.daemon.Daemon.{Daemon}
 use Rattle.broker_task.specs.Letters.{IsAt, connects, released}
 use Rattle.call_broker.specs.declared.decision.Entry.{Entry}

@@ -15,7 +15,7 @@ use Rattle.call_broker.specs.declared.decision.Decision.{Decision}
 use Rattle.call_broker.specs.declared.decision.Decision.TheVariants as decision
 use Rattle.call_broker.specs.Domains.{Domains}
 use Rattle.task_duties.specs.Broker.Outbox.{puts, is_from, is_answer}
-use Rattle.broker_task.specs.declared.letter.Letter.{Letter}
+use Rattle.broker_task.specs.declared.outbox.Letter.{Letter}
 use Rattle.broker_task.specs.declared.daemon.Daemon.{Daemon}
 use Rattle.broker_task.specs.declared.reply.Reply.TheVariants.{Nothing, Refused, Accepted}
 use Rattle.broker_task.specs.Letters.{IsAt, messages_in}

@@ -20,7 +20,7 @@ use Rattle.call_broker.proofs.BrokerLaws.{decided_push}
 use Rattle.vchan_rule.specs.Seated.{view}
 use Rattle.control_port.specs.Port.{PortState, HasSaid}
 use Rattle.task_duties.specs.Broker.Outbox.{outbox, puts, answered, is_answer}
-use Rattle.broker_task.specs.declared.letter.Letter.{Letter}
+use Rattle.broker_task.specs.declared.outbox.Letter.{Letter}
 use Rattle.broker_task.specs.declared.daemon.Daemon.{Daemon}
 use Rattle.broker_task.specs.Letters.{messages_in}
 use Rattle.broker_task.specs.Lines.{is_shut, is_gone, MayDrop, IsLine, HasRoom}

@@ -15,7 +15,7 @@ use Rattle.vchan_rule.specs.Seated.{view, IsOpen}
 use Rattle.control_port.specs.Port.{PortState, HasSaid}
 use Rattle.call_broker.specs.Domains.{Domains}
 use Rattle.task_duties.specs.Broker.Outbox.{outbox, read_from}
-use Rattle.broker_task.specs.declared.letter.Letter.{Letter}
+use Rattle.broker_task.specs.declared.outbox.Letter.{Letter}
 use Rattle.broker_task.specs.declared.daemon.Daemon.{Daemon}
 use Rattle.broker_task.specs.Letters.{IsAt, messages_in, connects, released}
 use Rattle.broker_task.specs.Lines.{is_shut, is_gone, first_view, IsLine, HasRead, SendsOne, IsSameDaemon}

@@ -6,7 +6,7 @@ use Rattle.std.proofs.lemmas.List.{get_or-set_same, length-set}
 use Rattle.std.proofs.lemmas.Bool.Decides.{nat_tests}
 use Rattle.list_laws.proofs.Tests.{same_number}
 use Rattle.qrexec_frame.specs.declared.message.Message.{Message}
-use Rattle.qrexec_data.specs.declared.fault.SessionFault.{SessionFault}
+use Rattle.qrexec_data.specs.declared.outcome.SessionFault.{SessionFault}
 use Rattle.vchan_rule.specs.Seated.{SeatedEnd, view, IsOpen}
 use Rattle.control_port.specs.Port.{HasSaid}
 use Rattle.call_broker.specs.declared.event.Event.{Event}

@@ -12,7 +12,7 @@ use Rattle.end_view.specs.EndView.{EndView}
 use Rattle.qrexec_frame.specs.declared.message.Message.{Message}
 use Rattle.qrexec_frame.specs.declared.message.Message.TheVariants.{Connect}
 use Rattle.qrexec_frame.specs.Messages.{IsSpellable}
-use Rattle.qrexec_data.specs.declared.fault.SessionFault.{SessionFault}
+use Rattle.qrexec_data.specs.declared.outcome.SessionFault.{SessionFault}
 use Rattle.call_broker.specs.declared.decision.Entry.{Entry}
 use Rattle.call_broker.specs.Domains.{Domains, is_domain, count_of}
 use Rattle.control_port.specs.declared.talk.Talker.{Talker}
@@ -25,7 +25,7 @@ use Rattle.task_duties.specs.Hearing.{to_agent, to_broker, IsSaid, hears}
 use Rattle.task_duties.specs.Broker.Outbox.{outbox, event_of, read_from, answered, live_calls}
 use Rattle.task_duties.specs.Broker.Owes.{broker_version, awaited_of}
 use Rattle.task_duties.proofs.Elements.{each_at, has_from}
-use Rattle.broker_task.specs.declared.letter.Letter.{Letter}
+use Rattle.broker_task.specs.declared.outbox.Letter.{Letter}
 use Rattle.broker_task.specs.declared.daemon.Daemon.{Daemon}
 use Rattle.broker_task.specs.declared.switchboard.Switchboard.{Switchboard}
 use Rattle.broker_task.specs.Letters.{IsAt, messages_in}

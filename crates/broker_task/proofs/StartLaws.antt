@@ -9,7 +9,7 @@ use Rattle.call_broker.specs.Domains.{Domains, count_of}
 use Rattle.task_duties.specs.Broker.Outbox.{outbox}
 use Rattle.task_duties.specs.TaskOwes.{Broker, broker_ends, broker_given}
 use Rattle.broker_task.specs.declared.daemon.Daemon.{Daemon}
-use Rattle.broker_task.specs.declared.letter.Letter.{Letter}
+use Rattle.broker_task.specs.declared.outbox.Letter.{Letter}
 use Rattle.broker_task.specs.declared.switchboard.Switchboard.{Switchboard}
 use Rattle.broker_task.specs.Letters.{IsAt, messages_in}
 use Rattle.broker_task.specs.Lines.{end_of, first_view, IsLine, HasRead}

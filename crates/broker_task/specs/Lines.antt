@@ -19,7 +19,7 @@ use Rattle.control_port.specs.Port.{HasSaid, HasHeard}
 use Rattle.task_duties.specs.Hearing.{to_agent, to_broker, Heard, hears}
 use Rattle.task_duties.specs.Broker.Outbox.{event_of, is_from}
 use Rattle.task_duties.specs.Broker.Owes.{broker_version}
-use Rattle.broker_task.specs.declared.letter.Letter.{Letter}
+use Rattle.broker_task.specs.declared.outbox.Letter.{Letter}
 use Rattle.broker_task.specs.declared.daemon.Daemon.{Daemon}
 use Rattle.broker_task.specs.Letters.{IsAt, AreHeld}
 

@@ -14,7 +14,7 @@ use Rattle.vchan_rule.specs.Ends.{IsSameEnd}
 use Rattle.qrexec_frame.specs.Messages.{written}
 use Rattle.qrexec_frame.specs.declared.message.Message.TheVariants.{Hello}
 use Rattle.task_duties.specs.Broker.Owes.{broker_version}
-use Rattle.broker_task.specs.declared.letter.Letter.{Letter}
+use Rattle.broker_task.specs.declared.outbox.Letter.{Letter}
 use Rattle.broker_task.specs.declared.daemon.Daemon.{Daemon}
 use Rattle.broker_task.specs.Letters.{IsAt, AreHeld}
 use Rattle.broker_task.specs.Lines.{is_shut}

@@ -8,7 +8,6 @@
 
 mod daemon;
 mod ends;
-mod letter;
 mod outbox;
 mod reply;
 mod round;

@@ -1,10 +1,9 @@
-//! The outbox of a domain.
+//! The outbox of a domain, and the messages in it.
 ghost use Rattle.std.specs.Prelude.{◌≡◌, ◌<◌, ◌≤◌, ◌↔◌, IsTrue, ◌++◌, ◌∷◌, [], false, true, map, length, OnOk, IfSome, Some, None};
 ghost use Rattle.std.specs.List.{remove};
 ghost use Rattle.broker_task.specs.Letters.{IsAt, AreHeld, IsFirstReady, released, connects, is_meant};
-ghost use Rattle.broker_task.specs.declared.letter.Letter.{Letter as Put};
+ghost use Rattle.broker_task.specs.declared.outbox.Letter.{Letter as Put};
 
-use crate::letter::Letter;
 use qrexec_frame::Message;
 use std::alloc::Global;
 use std::collections::VecDeque;
@@ -12,6 +11,14 @@ use vchan_io::Memory;
 
 /// The number of messages that fill an outbox. While an outbox has that many, its domain isn't read.
 const FULL: usize = 64;
+
+/// A message that waits for room on a control channel.
+#[derive(Drop)]
+pub(crate) struct Letter {
+    pub(crate) message: Message,
+    // Whether it waits for another message to be sent first.
+    pub(crate) held: bool,
+}
 
 /// The messages that wait to be sent to a domain, in the order in which they were put there. A message that
 /// is held lets those after it pass.

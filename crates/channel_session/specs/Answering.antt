@@ -11,8 +11,8 @@ use Rattle.qrexec_data.specs.ServingSide.{ServingState, ServingStandsFor, IsStil
 use Rattle.vchan_rule.specs.Seated.{SeatedEnd, view, IsOpen}
 use Rattle.end_view.specs.EndView.{EndView}
 use Rattle.task_duties.specs.Agent.Sessions.{chunk, IsClosed, IsGone}
-use Rattle.channel_session.specs.declared.turned.Turned.{Turned}
-use Rattle.channel_session.specs.declared.turned.Turned.TheVariants.{Moved, Quiet, Passed}
+use Rattle.channel_session.specs.declared.pause.Turned.{Turned}
+use Rattle.channel_session.specs.declared.pause.Turned.TheVariants.{Moved, Quiet, Passed}
 use Rattle.vchan_lifecycle.specs.Lifecycle.{FindsNotYet}
 use Rattle.channel_session.specs.Turning.{Pace, IsMade, HasMoved, HasRested, SendsNone, IsQuiet, IsPassed}
 

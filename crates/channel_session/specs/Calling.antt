@@ -6,8 +6,8 @@ use Rattle.end_view.specs.EndView.{EndView}
 use Rattle.qrexec_data.specs.declared.outcome.Outcome.{Outcome}
 use Rattle.qrexec_data.specs.CallerSide.{CallerState, CallerStandsFor, IsStill}
 use Rattle.task_duties.specs.Agent.Sessions.{chunk, CallerEnded}
-use Rattle.channel_session.specs.declared.turned.Turned.{Turned}
-use Rattle.channel_session.specs.declared.turned.Turned.TheVariants.{Moved, Quiet, Passed}
+use Rattle.channel_session.specs.declared.pause.Turned.{Turned}
+use Rattle.channel_session.specs.declared.pause.Turned.TheVariants.{Moved, Quiet, Passed}
 use Rattle.vchan_lifecycle.specs.Lifecycle.{FindsNotYet}
 use Rattle.channel_session.specs.Turning.{Pace, IsMade, HasMoved, HasRested, SendsNone, IsQuiet, FindsNoEvent, MayPass, IsPassed}
 

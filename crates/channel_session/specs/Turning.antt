@@ -13,8 +13,8 @@ use Rattle.vchan_rule.specs.Seated.{SeatedEnd, view}
 use Rattle.vchan_rule.specs.Ends.{IsSameEnd}
 use Rattle.vchan_rule.specs.Called.{most_asked}
 use Rattle.vchan_lifecycle.specs.Lifecycle.{FindsNotYet}
-use Rattle.channel_session.specs.declared.turned.Turned.{Turned}
-use Rattle.channel_session.specs.declared.turned.Turned.TheVariants.{Moved, Quiet}
+use Rattle.channel_session.specs.declared.pause.Turned.{Turned}
+use Rattle.channel_session.specs.declared.pause.Turned.TheVariants.{Moved, Quiet}
 
 -- what a session keeps of its turns: whether a write found its peer shut, whether the last turn that was made was quiet, and how many were passed over since
 pub record Pace : Type 0 where

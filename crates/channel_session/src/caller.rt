@@ -7,8 +7,7 @@ ghost use Rattle.channel_session.specs.Calling.{IsCalling, IsSameCall, IsRetired
 ghost use Rattle.channel_session.specs.Ended.{done_of};
 ghost use Rattle.channel_session.specs.Turning.{first_pace, HasSeenShut, KeepsShut};
 
-use crate::pause::Pause;
-use crate::turned::Turned;
+use crate::pause::{Pause, Turned};
 use qrexec_data::{Caller, CallerParts, Outcome};
 use qrexec_frame::Bytes;
 use std::marker::Model;

@@ -10,8 +10,7 @@
 mod caller;
 mod pause;
 mod serving;
-mod turned;
 
 pub use caller::{CallerEnd, CallerSession};
+pub use pause::Turned;
 pub use serving::{ServingEnd, ServingSession};
-pub use turned::Turned;

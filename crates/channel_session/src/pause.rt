@@ -1,11 +1,20 @@
-//! Which turns a session passes over.
+//! What a turn of a session did, and which turns are passed over.
 ghost use Rattle.std.specs.Prelude.{◌≡◌, ◌↔◌, ◌+◌, ◌<◌, ◌||◌, not, IsTrue, true, false};
 ghost use Rattle.channel_session.specs.Turning.{turned_by};
 
-use crate::turned::Turned;
-
 /// The greatest number of turns that are passed over between two. Source: this project's own.
 const MOST: u8 = 7;
+
+/// What a turn of a session did.
+#[derive(Clone, Copy, Debug, PartialEq, Eq)]
+pub enum Turned {
+    /// Bytes came or went, or the call is over.
+    Moved,
+    /// The turn was made, and found nothing to move.
+    Quiet,
+    /// The turn was passed over: the one before moved nothing, and the peer hasn't signalled since.
+    Passed,
+}
 
 /// Which turns a session passes over: none while turns move bytes, and then those in which its peer
 /// hasn't signalled, up to seven between two. A peer that signals when it must has nothing to tell

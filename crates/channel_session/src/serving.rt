@@ -11,8 +11,7 @@ ghost use Rattle.channel_session.specs.Calling.{IsDueOrPasses};
 ghost use Rattle.channel_session.specs.Turning.{first_pace, HasSeenShut, KeepsShut};
 ghost use Rattle.task_duties.specs.Agent.Sessions.{IsService, ServingOwes};
 
-use crate::pause::Pause;
-use crate::turned::Turned;
+use crate::pause::{Pause, Turned};
 use qrexec_data::{Outcome, Serving};
 use qrexec_frame::Bytes;
 use service_gate::Builtin;

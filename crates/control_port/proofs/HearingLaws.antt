@@ -8,7 +8,7 @@ use Rattle.qrexec_frame.specs.Grammar.{Fault}
 use Rattle.qrexec_frame.specs.Streams.{Placed, Ending}
 use Rattle.qrexec_hello.specs.Greeting.{greeting}
 use Rattle.qrexec_hello.specs.declared.hello.HelloFault.{HelloFault}
-use Rattle.qrexec_data.specs.declared.fault.SessionFault.TheVariants as fault
+use Rattle.qrexec_data.specs.declared.outcome.SessionFault.TheVariants as fault
 use Rattle.qrexec_data.specs.Seeing.{offset, number}
 use Rattle.task_duties.specs.Hearing.{hears_on, allowed, first_fault, fault_of_end}
 use Rattle.control_port.specs.Port.{EachMay, HearsSoFar, Nothing, Greeted}

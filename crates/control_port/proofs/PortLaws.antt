@@ -15,7 +15,7 @@ use Rattle.qrexec_frame.specs.Streams.{Placed}
 use Rattle.qrexec_frame.specs.Decoding.{DecoderState, StandsFor, Reads, Answers, after_feed}
 use Rattle.qrexec_hello.specs.Greeting.{greeting}
 use Rattle.qrexec_hello.specs.declared.hello.HelloFault.{HelloFault}
-use Rattle.qrexec_data.specs.declared.fault.SessionFault.TheVariants as fault
+use Rattle.qrexec_data.specs.declared.outcome.SessionFault.TheVariants as fault
 use Rattle.qrexec_data.specs.Seeing.{number}
 use Rattle.ring_words.specs.declared.page.Role.{Role}
 use Rattle.vchan_protocol.specs.declared.op.Op.{Op}

@@ -12,7 +12,7 @@ use Rattle.list_laws.specs.Lists.{IsPrefixOf}
 use Rattle.qrexec_frame.specs.Fronts.{reading}
 use Rattle.vchan_packet.specs.declared.SendAnswer.{SendAnswer}
 use Rattle.vchan_packet.specs.declared.SendAnswer.TheVariants.{Sent, NoRoom, PeerClosed}
-use Rattle.qrexec_data.specs.declared.fault.SessionFault.{SessionFault}
+use Rattle.qrexec_data.specs.declared.outcome.SessionFault.{SessionFault}
 use Rattle.vchan_rule.specs.Seated.{SeatedEnd, view}
 use Rattle.task_duties.specs.Hearing.{hears}
 use Rattle.control_port.specs.declared.talk.Talker.{Talker}

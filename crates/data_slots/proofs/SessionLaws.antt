@@ -10,7 +10,7 @@ use Rattle.list_laws.proofs.Tests.{same_number}
 use Rattle.qrexec_data.specs.declared.outcome.Outcome.{Outcome}
 use Rattle.end_view.specs.EndView.{EndView}
 use Rattle.vchan_rule.specs.Seated.{view}
-use Rattle.channel_session.specs.declared.turned.Turned.{Turned}
+use Rattle.channel_session.specs.declared.pause.Turned.{Turned}
 use Rattle.channel_session.specs.Calling.{CallerAt, CallerTurns, IsRetired}
 use Rattle.channel_session.specs.Answering.{ServingAt, ServingTurns}
 use Rattle.channel_session.specs.Turning.{KeepsBytes}

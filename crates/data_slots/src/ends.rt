@@ -19,7 +19,6 @@ use crate::done::DataDone;
 use crate::finish::{finish_all, give_up_all, session_ends};
 use crate::index::{Index, end_at};
 use crate::note::{CallNote, ServedNote};
-use crate::room::push_within;
 use crate::setup::{EndsRoom, room_for, unused_slots};
 use crate::slot::Slot;
 use qrexec_data::{Caller, Serving};
@@ -400,5 +399,16 @@ fn take_back_at(slots: &mut [Slot], at: usize) -> bool
         slots[at].take_back()
     } else {
         false
+    }
+}
+
+// Appends a value to a list that has room for it.
+fn push_within<T: Drop>(list: &mut Vec<T>, value: T)
+    requires { length list.old.items < vec_capacity list.old }
+    ensures items { list.new.items ≡ list.old.items ++ value ∷ [] }
+    ensures capacity { vec_capacity list.old ≤ vec_capacity list.new }
+{
+    if list.push(value).is_err() {
+        unreachable!()
     }
 }

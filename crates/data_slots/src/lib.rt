@@ -11,7 +11,6 @@ mod finish;
 mod index;
 mod note;
 mod report;
-mod room;
 mod setup;
 mod side;
 mod slot;

@@ -10,7 +10,7 @@ ghost use Rattle.vchan_rule.specs.Ends.{IsSameEnd};
 ghost use Rattle.page_offer.specs.Views.{unused_view};
 ghost use Rattle.task_duties.specs.declared.place.PagePlace.{PagePlace};
 ghost use Rattle.task_duties.specs.GivenEnds.{done_view, fresh_view, retired_at};
-ghost use Rattle.channel_session.specs.declared.turned.Turned.{Turned as Answer};
+ghost use Rattle.channel_session.specs.declared.pause.Turned.{Turned as Answer};
 ghost use Rattle.channel_session.specs.Calling.{IsCalling, IsSameCall, CallerTurns};
 ghost use Rattle.channel_session.specs.Answering.{ServingAt, IsAnswering, IsAtWork, ServingTurns};
 ghost use Rattle.channel_session.specs.Turning.{first_pace, KeepsBytes};

@@ -12,7 +12,7 @@ use Rattle.std.below.core.proofs.snapshot.Sent.{snapshot_send}
 use Rattle.vchan_rule.specs.contracts.end.End as end
 use Rattle.vchan_rule.proofs.Sent.{end_send}
 use Rattle.qrexec_frame.proofs.decoder.Decoder.TheSendSync as decoder
-use Rattle.qrexec_data.proofs.fault.SessionFault.TheSendSync as fault
+use Rattle.qrexec_data.proofs.outcome.SessionFault.TheSendSync as fault
 use Rattle.service_gate.specs.contracts.builtin.Builtin as service
 use Rattle.control_port.proofs.moves.Moves.TheSendSync as moves
 use Rattle.control_port.proofs.talk.Talker.TheSendSync as talker
@@ -49,7 +49,7 @@ use Rattle.data_slots.specs.contracts.slot.Slot as slot
 use Rattle.data_slots.specs.contracts.ends.Ends as ends
 use Rattle.data_slots.specs.contracts.slots.DataSlots as slots
 use Rattle.data_slots.specs.contracts.slots.DataSlots.TheInside as slots_inside
-use Rattle.agent_task.specs.contracts.given.Given as given
+use Rattle.agent_task.specs.contracts.agent.Given as given
 use Rattle.agent_task.specs.contracts.agent.Agent as agent
 use Rattle.agent_task.specs.contracts.task.AgentDone as agent_done
 use Rattle.agent_task.specs.contracts.task.AgentTask as agent_task

@@ -11,8 +11,8 @@ use Rattle.task_pool.specs.declared.task.Turn.{Turn}
 use Rattle.task_pool.specs.declared.task.Turn.TheVariants as turn
 use Rattle.task_duties.specs.declared.done.ControlEnd.{ControlEnd}
 use Rattle.task_duties.specs.Hostile.Given.{HostilePlan}
-use Rattle.channel_session.specs.declared.turned.Turned.{Turned}
-use Rattle.channel_session.specs.declared.turned.Turned.TheVariants.{Moved, Quiet, Passed}
+use Rattle.channel_session.specs.declared.pause.Turned.{Turned}
+use Rattle.channel_session.specs.declared.pause.Turned.TheVariants.{Moved, Quiet, Passed}
 use Rattle.channel_session.specs.Calling.{CallerAt, CallerTurns}
 use Rattle.channel_session.specs.Answering.{ServingAt, ServingTurns}
 use Rattle.channel_session.specs.Turning.{KeepsBytes, HasMoved as BytesMoved}

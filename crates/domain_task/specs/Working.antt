@@ -7,8 +7,8 @@ use Rattle.vchan_rule.specs.Seated.{SeatedEnd, view}
 use Rattle.task_pool.specs.declared.task.Turn.{Turn}
 use Rattle.task_pool.specs.declared.task.Turn.TheVariants as turn
 use Rattle.task_duties.specs.declared.done.ControlEnd.{ControlEnd}
-use Rattle.channel_session.specs.declared.turned.Turned.{Turned}
-use Rattle.channel_session.specs.declared.turned.Turned.TheVariants.{Moved}
+use Rattle.channel_session.specs.declared.pause.Turned.{Turned}
+use Rattle.channel_session.specs.declared.pause.Turned.TheVariants.{Moved}
 use Rattle.channel_session.specs.Calling.{CallerAt, CallerTurns}
 use Rattle.channel_session.specs.Answering.{ServingAt, ServingTurns}
 use Rattle.data_slots.specs.Sessions.{Session, NotBegun, CallsWith, AwaitsPage, ServesWith, EndedWith, session_at, got_in, sent_in}

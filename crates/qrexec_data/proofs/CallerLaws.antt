@@ -12,7 +12,7 @@ use Rattle.qrexec_frame.specs.Messages.{written}
 use Rattle.qrexec_frame.specs.Grammar.{Fault}
 use Rattle.qrexec_frame.specs.Fronts.{front, fault_at}
 use Rattle.qrexec_frame.specs.Streams.{Whole, Bad, Short, Placed, Reading, Rest}
-use Rattle.qrexec_data.specs.declared.fault.SessionFault.TheVariants as fault
+use Rattle.qrexec_data.specs.declared.outcome.SessionFault.TheVariants as fault
 use Rattle.qrexec_data.specs.declared.outcome.Outcome.{Outcome}
 use Rattle.qrexec_data.specs.Pieces.{In, Piece, end_of, is_input}
 use Rattle.qrexec_data.specs.Seeing.{Seen, Undecided, caller_use, sees_all}

@@ -7,7 +7,7 @@ use Rattle.qrexec_frame.specs.declared.message.Message.TheVariants as message
 use Rattle.qrexec_frame.specs.Grammar.{Fault}
 use Rattle.qrexec_frame.specs.Streams.{Placed, Ending, Rest}
 use Rattle.qrexec_hello.specs.Greeting.{greeting}
-use Rattle.qrexec_data.specs.declared.fault.SessionFault.TheVariants as fault
+use Rattle.qrexec_data.specs.declared.outcome.SessionFault.TheVariants as fault
 use Rattle.qrexec_data.specs.declared.outcome.Outcome.{Outcome}
 use Rattle.qrexec_data.specs.declared.outcome.Outcome.TheVariants as outcome
 use Rattle.qrexec_data.specs.Pieces.{Stream, Out, Err as Errors, Piece, joined, has_ended, no_bytes}

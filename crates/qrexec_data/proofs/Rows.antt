@@ -4,7 +4,7 @@ use Rattle.std.specs.Prelude.{pos, negsuc, true}
 use Rattle.qrexec_frame.specs.Fronts.{front}
 use Rattle.qrexec_frame.specs.declared.fault.FrameFault.TheVariants as frame
 use Rattle.qrexec_hello.specs.declared.hello.HelloFault.TheVariants as hello
-use Rattle.qrexec_data.specs.declared.fault.SessionFault.TheVariants.{Frame, Hello, WrongSide, AfterEnd}
+use Rattle.qrexec_data.specs.declared.outcome.SessionFault.TheVariants.{Frame, Hello, WrongSide, AfterEnd}
 use Rattle.qrexec_data.specs.Seeing.{Undecided, Exited, Faulty, caller_sees, serving_sees}
 
 wrong_side : (caller_sees (0 ∷ 3 ∷ 0 ∷ 0 ∷ 4 ∷ 0 ∷ 0 ∷ 0 ∷ 3 ∷ 0 ∷ 0 ∷ 0 ∷ 144 ∷ 1 ∷ 0 ∷ 0 ∷ 0 ∷ 0 ∷ 0 ∷ 0 ∷ [])).verdict ≡ Faulty (WrongSide 12 400)

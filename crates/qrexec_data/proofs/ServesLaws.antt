@@ -11,8 +11,8 @@ use Rattle.qrexec_frame.specs.Grammar.{Fault}
 use Rattle.qrexec_frame.specs.Streams.{Placed, Ending, Rest}
 use Rattle.qrexec_hello.specs.Greeting.{greeting}
 use Rattle.service_gate.specs.Triple.{Triple, after_outputs, Feeds, Ends}
-use Rattle.qrexec_data.specs.declared.fault.SessionFault.{SessionFault}
-use Rattle.qrexec_data.specs.declared.fault.SessionFault.TheVariants as fault
+use Rattle.qrexec_data.specs.declared.outcome.SessionFault.{SessionFault}
+use Rattle.qrexec_data.specs.declared.outcome.SessionFault.TheVariants as fault
 use Rattle.qrexec_data.specs.declared.outcome.Outcome.{Outcome}
 use Rattle.qrexec_data.specs.declared.outcome.Outcome.TheVariants as outcome
 use Rattle.qrexec_data.specs.Pieces.{In, Out, Err as Errors, Piece, message_of, joined, has_ended, no_bytes}

@@ -12,7 +12,7 @@ use Rattle.qrexec_frame.specs.Streams.{Whole, Bad, Short, Placed, Reading, Rest}
 use Rattle.qrexec_hello.specs.Greeting.{greeting}
 use Rattle.qrexec_hello.specs.declared.hello.HelloFault.{HelloFault}
 use Rattle.service_gate.specs.Triple.{Triple}
-use Rattle.qrexec_data.specs.declared.fault.SessionFault.TheVariants as fault
+use Rattle.qrexec_data.specs.declared.outcome.SessionFault.TheVariants as fault
 use Rattle.qrexec_data.specs.declared.outcome.Outcome.{Outcome}
 use Rattle.qrexec_data.specs.declared.outcome.Outcome.TheVariants as outcome
 use Rattle.qrexec_data.specs.Seeing.{Seen, Undecided, serving_use, sees_all}

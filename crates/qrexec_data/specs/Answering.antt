@@ -6,8 +6,8 @@ use Rattle.qrexec_frame.specs.Messages.{written}
 use Rattle.qrexec_hello.specs.Greeting.{greeting}
 use Rattle.qrexec_hello.specs.declared.hello.HelloFault.{HelloFault}
 use Rattle.service_gate.specs.Triple.{Triple, Feeds, Ends}
-use Rattle.qrexec_data.specs.declared.fault.SessionFault.{SessionFault}
-use Rattle.qrexec_data.specs.declared.fault.SessionFault.TheVariants as fault
+use Rattle.qrexec_data.specs.declared.outcome.SessionFault.{SessionFault}
+use Rattle.qrexec_data.specs.declared.outcome.SessionFault.TheVariants as fault
 use Rattle.qrexec_data.specs.declared.outcome.Outcome.{Outcome}
 use Rattle.qrexec_data.specs.declared.outcome.Outcome.TheVariants.{Done, Fault}
 use Rattle.qrexec_data.specs.Seeing.{Strays, number, serving_use}

@@ -5,7 +5,7 @@ use Rattle.qrexec_frame.specs.declared.message.Message.{Message}
 use Rattle.qrexec_frame.specs.Grammar.{Fault}
 use Rattle.qrexec_frame.specs.Fronts.{front, reading, fault_at}
 use Rattle.qrexec_frame.specs.Streams.{Whole, Bad, Short, Rest}
-use Rattle.qrexec_data.specs.declared.fault.SessionFault.TheVariants as fault
+use Rattle.qrexec_data.specs.declared.outcome.SessionFault.TheVariants as fault
 use Rattle.qrexec_data.specs.Seeing.{caller_use, sees_all, seen_by}
 use Rattle.qrexec_data.specs.Reading.{InboxState, unread, read_messages, IsAtMessage}
 use Rattle.qrexec_data.specs.Replies.{RepliesState, after_message, faulted, KnowsReplies}

@@ -4,8 +4,8 @@ use Rattle.qrexec_frame.specs.declared.message.Message.{Message}
 use Rattle.qrexec_frame.specs.Streams.{Placed}
 use Rattle.qrexec_hello.specs.Greeting.{greeting}
 use Rattle.qrexec_hello.specs.declared.hello.HelloFault.{HelloFault}
-use Rattle.qrexec_data.specs.declared.fault.SessionFault.{SessionFault}
-use Rattle.qrexec_data.specs.declared.fault.SessionFault.TheVariants as fault
+use Rattle.qrexec_data.specs.declared.outcome.SessionFault.{SessionFault}
+use Rattle.qrexec_data.specs.declared.outcome.SessionFault.TheVariants as fault
 use Rattle.qrexec_data.specs.declared.outcome.Outcome.{Outcome}
 use Rattle.qrexec_data.specs.declared.outcome.Outcome.TheVariants.{Done, Fault, Closed, Gone}
 use Rattle.qrexec_data.specs.Pieces.{Stream, In, Out, Err as Errors, no_bytes, joined, has_ended}

@@ -11,8 +11,8 @@ use Rattle.qrexec_frame.specs.Fronts.{reading, fault_at}
 use Rattle.qrexec_frame.specs.Streams.{Placed, Ending, Rest, FaultAt}
 use Rattle.qrexec_hello.specs.Greeting.{greeting}
 use Rattle.qrexec_hello.specs.declared.hello.HelloFault.{HelloFault}
-use Rattle.qrexec_data.specs.declared.fault.SessionFault.{SessionFault}
-use Rattle.qrexec_data.specs.declared.fault.SessionFault.TheVariants.{Frame, Hello, WrongSide, AfterEnd}
+use Rattle.qrexec_data.specs.declared.outcome.SessionFault.{SessionFault}
+use Rattle.qrexec_data.specs.declared.outcome.SessionFault.TheVariants.{Frame, Hello, WrongSide, AfterEnd}
 use Rattle.qrexec_data.specs.Pieces.{Stream, In, Out, Err as Errors, Piece, piece_of, joined, has_ended, is_input, is_output}
 
 -- what the bytes decide

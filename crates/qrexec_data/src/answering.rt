@@ -9,10 +9,9 @@ ghost use Rattle.qrexec_hello.specs.Greeting.{greeting};
 ghost use Rattle.qrexec_data.specs.Reading.{IsByBytes};
 ghost use Rattle.qrexec_data.specs.Answering.{AnswersTo, FeedsOn, EndsOn, after_greeting, faulted, laid_next, laid_on, end_bytes, over_if, after_gone};
 
-use crate::fault::SessionFault;
 use crate::limit::most;
 use crate::outbox::Outbox;
-use crate::outcome::Outcome;
+use crate::outcome::{Outcome, SessionFault};
 use qrexec_frame::{Body, Kind};
 use qrexec_hello::Hello;
 use service_gate::Service;

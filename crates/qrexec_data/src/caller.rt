@@ -1,9 +1,8 @@
 ghost use Rattle.std.specs.Prelude.{◌≡◌, ◌≤◌, ◌<◌, ◌^◌, ◌++◌, ◌↔◌, ℕ, List, [], Some, None, IsSome, length, take, drop, Ok, IsOk, IfOk, OnOk, OnErr, true, false};
 ghost use Rattle.std.specs.Option.{option_or};
 
-use crate::fault::SessionFault;
 use crate::inbox::Inbox;
-use crate::outcome::Outcome;
+use crate::outcome::{Outcome, SessionFault};
 use crate::replies::Replies;
 use crate::requests::Requests;
 use std::alloc::Global;

@@ -8,7 +8,6 @@
 
 mod answering;
 mod caller;
-mod fault;
 mod inbox;
 pub mod laws;
 mod limit;
@@ -16,10 +15,8 @@ mod outbox;
 mod outcome;
 mod replies;
 mod requests;
-mod room;
 mod serving;
 
 pub use caller::{Caller, CallerParts};
-pub use fault::SessionFault;
-pub use outcome::Outcome;
+pub use outcome::{Outcome, SessionFault};
 pub use serving::Serving;

@@ -5,7 +5,7 @@ ghost use Rattle.qrexec_frame.specs.Fronts.{made};
 ghost use Rattle.qrexec_frame.specs.Messages.{Fits, written};
 ghost use Rattle.qrexec_frame.specs.declared.message.Message.TheVariants as message;
 
-use crate::room::SHORT_CALL;
+use crate::limit::SHORT_CALL;
 use qrexec_frame::{Kind, Message, encode, encode_data};
 use qrexec_hello::Hello;
 use std::alloc::Global;

@@ -7,10 +7,9 @@ ghost use Rattle.qrexec_data.specs.Replies.{no_replies, after_message, after_gre
 ghost use Rattle.qrexec_data.specs.Pieces.{Out, Err};
 ghost use Rattle.qrexec_data.specs.Reading.{IsByBytes};
 ghost use Rattle.qrexec_hello.specs.Greeting.{greeting};
-ghost use Rattle.qrexec_data.specs.declared.fault.SessionFault.TheVariants as fault;
+ghost use Rattle.qrexec_data.specs.declared.outcome.SessionFault.TheVariants as fault;
 
-use crate::fault::SessionFault;
-use crate::outcome::Outcome;
+use crate::outcome::{Outcome, SessionFault};
 use qrexec_frame::{Body, Kind};
 use qrexec_hello::Hello;
 use std::alloc::Global;

@@ -3,9 +3,8 @@ ghost use Rattle.std.specs.Option.{option_or};
 ghost use Rattle.service_gate.specs.Triple.{Triple};
 
 use crate::answering::Answering;
-use crate::fault::SessionFault;
 use crate::inbox::Inbox;
-use crate::outcome::Outcome;
+use crate::outcome::{Outcome, SessionFault};
 use service_gate::Service;
 use std::alloc::Global;
 use std::marker::Model;

@@ -7,8 +7,7 @@ ghost use Rattle.scenario_file.specs.ActReadings.{Spells};
 ghost use Rattle.scenario_file.specs.ActWords.{act_of, act_of_words, alone, any_number, byte_at, byte_named, colon_parts, data_page, name_word, number_from, page_of, poke_from, poke_of, rest_of, say_of, scribble_of, service_word, terminate_of, trigger_from, trigger_of, word_named};
 
 use crate::acts::{Act, ActPage};
-use crate::names::{is_name, is_service};
-use crate::text::text_of;
+use crate::names::{is_name, is_service, text_of};
 use qrexec_frame::{Bytes, Text};
 use ring_words::{Ring, WordName, field_named};
 use script_words::{ByteError, WordsOfLine, bytes_of, parse_number, place_in};

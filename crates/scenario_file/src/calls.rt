@@ -18,10 +18,9 @@ use crate::keys::{
     check_keys, integer_in, list_at, member, natural, needed_text, table_in, text_in,
 };
 use crate::lookup::{domain_at_place, place_named};
-use crate::names::{is_name, is_service};
+use crate::names::{is_name, is_service, text_of};
 use crate::place::{Place, Refusal, Section};
 use crate::scenario::{CallPlan, Domain};
-use crate::text::text_of;
 use qrexec_frame::{Bytes, Text};
 use script_words::{ByteError, bytes_of};
 use std::alloc::Global;

@@ -17,10 +17,9 @@ use crate::keys::{
     check_keys, list_at, list_in, member, needed_text, number_at, table_in, text_in,
 };
 use crate::lookup::place_named;
-use crate::names::is_name;
+use crate::names::{is_name, text_of};
 use crate::place::{Place, Refusal, Section};
 use crate::scenario::Domain;
-use crate::text::text_of;
 use std::alloc::Global;
 use toml::{Table, Value};
 

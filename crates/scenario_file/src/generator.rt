@@ -5,8 +5,8 @@ ghost use Rattle.qrexec_frame.specs.Texts.{HasNoNul};
 ghost use Rattle.scenario_file.specs.Generator.{after_call, call_from, fill, generated, generated_call, generated_calls, generated_domain, generated_names, generated_services, next_number, other_place, text_at};
 ghost use Rattle.scenario_file.specs.Scenario.{written};
 
+use crate::names::text_of;
 use crate::scenario::{CallPlan, Domain, Scenario};
-use crate::text::text_of;
 use qrexec_frame::Bytes;
 use ring_words::{Orders, check_orders};
 use std::alloc::Global;

@@ -23,7 +23,6 @@ mod path;
 mod place;
 mod rings;
 mod scenario;
-mod text;
 mod totals;
 mod without;
 

@@ -1,8 +1,13 @@
-//! The names of domains and of services.
-ghost use Rattle.std.specs.Prelude.{◌≡◌};
+//! The names of domains and of services, and their texts.
+ghost use Rattle.std.specs.Prelude.{◌≡◌, IfOk};
 ghost use Rattle.std.specs.List.{list_all};
 ghost use Rattle.qrexec_frame.specs.Names.{is_name_byte};
+ghost use Rattle.qrexec_frame.specs.Texts.{HasNoNul};
 ghost use Rattle.scenario_file.specs.Names.{is_name, is_service, is_service_byte};
+
+use qrexec_frame::{Text, TextError};
+use std::alloc::Global;
+use vchan_io::Memory;
 
 /// The greatest number of bytes of a domain's name.
 const MOST_NAME: usize = 31;
@@ -24,6 +29,18 @@ pub(crate) fn is_service(text: &[u8]) -> bool
     ensures { result ≡ is_service text.now }
 {
     !text.is_empty() && text.len() <= MOST_SERVICE && are_service_bytes(text)
+}
+
+/// Returns the text of bytes without NUL.
+pub(crate) fn text_of(alloc: Global, bytes: &[u8]) -> Result<Text, Memory>
+    requires { HasNoNul bytes.now }
+    ensures { IfOk result (λ text. text ≡ bytes.now) }
+{
+    match Text::of(alloc, bytes) {
+        Ok(text) => Ok(text),
+        Err(TextError::Memory) => Err(Memory),
+        Err(TextError::Nul) => unreachable!(),
+    }
 }
 
 #[tactic(auto, using(crate::proofs::NameLaws::all_step, crate::proofs::NameLaws::all_over))]

@@ -12,8 +12,8 @@ use Rattle.vchan_protocol.specs.Honest.LifeLaw.{WordsTell}
 use Rattle.end_view.specs.EndView.{EndView}
 use Rattle.vchan_rule.specs.Seated.{view}
 use Rattle.qrexec_data.specs.declared.outcome.Outcome.{Outcome}
-use Rattle.channel_session.specs.declared.turned.Turned.{Turned}
-use Rattle.channel_session.specs.declared.turned.Turned.TheVariants.{Moved, Quiet, Passed}
+use Rattle.channel_session.specs.declared.pause.Turned.{Turned}
+use Rattle.channel_session.specs.declared.pause.Turned.TheVariants.{Moved, Quiet, Passed}
 use Rattle.channel_session.specs.Calling.{CallerAt, CallerTurns}
 use Rattle.channel_session.specs.Answering.{ServingAt, ServingTurns, EndsBy}
 use Rattle.data_slots.specs.Sessions.{Session, NotBegun, CallsWith, AwaitsPage, ServesWith, EndedWith, session_at, got_in, sent_in}

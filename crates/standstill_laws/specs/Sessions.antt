@@ -13,7 +13,7 @@ use Rattle.vchan_protocol.specs.History.Peer.{peer}
 use Rattle.end_view.specs.EndView.{EndView}
 use Rattle.vchan_rule.specs.Seated.{SeatedEnd}
 use Rattle.vchan_lifecycle.specs.Lifecycle.{FindsNotYet}
-use Rattle.channel_session.specs.declared.turned.Turned.TheVariants.{Quiet}
+use Rattle.channel_session.specs.declared.pause.Turned.TheVariants.{Quiet}
 use Rattle.channel_session.specs.Calling.{CallerAt, CallerTurns}
 use Rattle.channel_session.specs.Answering.{ServingAt, ServingTurns}
 use Rattle.data_slots.specs.Sessions.{Session, CallsWith, ServesWith, EndedWith, has_ended}

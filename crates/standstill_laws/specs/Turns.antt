@@ -10,7 +10,7 @@ use Rattle.vchan_protocol.specs.Answering.Loads.{loads_of}
 use Rattle.vchan_protocol.specs.History.Core.{Core, side_of, standing_of}
 use Rattle.vchan_protocol.specs.Honest.Lawful.{Lawful}
 use Rattle.vchan_rule.specs.Seated.{SeatedEnd}
-use Rattle.channel_session.specs.declared.turned.Turned.TheVariants.{Quiet}
+use Rattle.channel_session.specs.declared.pause.Turned.TheVariants.{Quiet}
 use Rattle.channel_session.specs.Turning.{IsQuiet, SendsNone, NothingWaits, WasShut, RingIsFull, PeerIsShut}
 use Rattle.channel_session.specs.Calling.{CallerAt, CallerTurns, IsCalling}
 use Rattle.channel_session.specs.Answering.{ServingAt, ServingTurns, IsAnswering}

@@ -11,9 +11,9 @@ use Rattle.qrexec_frame.specs.Fronts.{reading, fault_at}
 use Rattle.qrexec_frame.specs.Streams.{Placed, Ending, Rest, FaultAt}
 use Rattle.qrexec_hello.specs.Greeting.{greeting}
 use Rattle.qrexec_hello.specs.declared.hello.HelloFault.{HelloFault}
-use Rattle.qrexec_data.specs.declared.fault.SessionFault.{SessionFault}
-use Rattle.qrexec_data.specs.declared.fault.SessionFault.TheVariants.{Frame, WrongSide}
-use Rattle.qrexec_data.specs.declared.fault.SessionFault.TheVariants as fault
+use Rattle.qrexec_data.specs.declared.outcome.SessionFault.{SessionFault}
+use Rattle.qrexec_data.specs.declared.outcome.SessionFault.TheVariants.{Frame, WrongSide}
+use Rattle.qrexec_data.specs.declared.outcome.SessionFault.TheVariants as fault
 use Rattle.qrexec_data.specs.Seeing.{offset, number}
 
 -- what the broker may send to an agent after its greeting

@@ -5,7 +5,7 @@ use Rattle.ring_words.specs.declared.page.WordName.TheVariants.{LeftProd, SrvNot
 use Rattle.qrexec_frame.specs.declared.message.Message.{Message}
 use Rattle.qrexec_frame.specs.declared.message.Message.TheVariants as message
 use Rattle.qrexec_frame.specs.Messages.{written}
-use Rattle.qrexec_data.specs.declared.fault.SessionFault.TheVariants.{WrongSide, Hello as BadHello}
+use Rattle.qrexec_data.specs.declared.outcome.SessionFault.TheVariants.{WrongSide, Hello as BadHello}
 use Rattle.qrexec_hello.specs.declared.hello.HelloFault.TheVariants.{NotHello}
 use Rattle.call_broker.specs.declared.decision.Entry.{Entry}
 use Rattle.call_broker.specs.declared.decision.Cause.TheVariants.{NoDomain}

@@ -2,7 +2,7 @@ use Rattle.std.proofs.Common.{◌-◌, length, get_or, refl, subst, arith, true,
 use Rattle.std.specs.Prelude.{◌==◌}
 use Rattle.std.proofs.Math.ListN.{set}
 use Rattle.std.proofs.lemmas.List.{length-set}
-use Rattle.broker_task.specs.declared.letter.Letter.{Letter}
+use Rattle.broker_task.specs.declared.outbox.Letter.{Letter}
 use Rattle.broker_task.specs.declared.reply.Reply.TheVariants.{Accepted}
 use Rattle.broker_task.specs.Replies.{IsReplyTo, IsWithin, AreFit}
 use Rattle.broker_task.specs.Letters.{IsAt}

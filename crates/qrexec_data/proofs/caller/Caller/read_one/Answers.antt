@@ -2,7 +2,7 @@ use Rattle.std.proofs.Common.{◌+◌, ◌∙◌, ap, length}
 use Rattle.std.specs.Prelude.{is_none}
 use Rattle.qrexec_frame.specs.Fronts.{made}
 use Rattle.qrexec_data.specs.Replies.{after_message, faulted}
-use Rattle.qrexec_data.specs.declared.fault.SessionFault.TheVariants as fault
+use Rattle.qrexec_data.specs.declared.outcome.SessionFault.TheVariants as fault
 use Rattle.qrexec_data.proofs.CallerLaws.{one_message, one_fault, none_of}
 use Rattle.qrexec_data.proofs.caller.Caller.read_one.Goals as goal
 

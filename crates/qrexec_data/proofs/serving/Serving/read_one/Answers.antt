@@ -3,7 +3,7 @@ use Rattle.std.proofs.Common.{ℕ, subst}
 use Rattle.std.specs.Prelude.{is_none}
 use Rattle.qrexec_frame.specs.Fronts.{made}
 use Rattle.qrexec_data.specs.Answering.{AnswersTo, faulted}
-use Rattle.qrexec_data.specs.declared.fault.SessionFault.TheVariants as fault
+use Rattle.qrexec_data.specs.declared.outcome.SessionFault.TheVariants as fault
 use Rattle.qrexec_data.proofs.CallerLaws.{none_of}
 use Rattle.qrexec_data.proofs.ServingLaws.{serves_one, serves_bad}
 use Rattle.qrexec_data.proofs.serving.Serving.read_one.Goals as goal
