@@ -21,8 +21,8 @@ use Rattle.task_duties.specs.GivenEnds.{done_view}
 use Rattle.data_slots.specs.declared.side.Side.{Side}
 use Rattle.data_slots.specs.declared.side.Side.TheVariants as side
 use Rattle.data_slots.specs.declared.slot.Slot.{Slot}
-use Rattle.data_slots.specs.declared.slot.Stage.{Stage}
-use Rattle.data_slots.specs.declared.slot.Stage.TheVariants.{Unused, Calls, Awaits, Serves, CallIsOver, ServingIsOver, Taken}
+use Rattle.data_slots.specs.declared.stage.Stage.{Stage}
+use Rattle.data_slots.specs.declared.stage.Stage.TheVariants.{Unused, Calls, Awaits, Serves, CallIsOver, ServingIsOver, Taken}
 use Rattle.data_slots.specs.Sides.{seen_under}
 use Rattle.data_slots.specs.Stages.{ForNothing, use_of, is_session, CanTurn}
 use Rattle.data_slots.specs.Given.{unused_slots}

@@ -14,9 +14,9 @@ use Rattle.service_gate.specs.Owing.{builtin_owes}
 use Rattle.service_gate.specs.declared.builtin.Builtin.{Builtin}
 use Rattle.channel_session.specs.Calling.{CallerAt, IsCalling, IsSameCall}
 use Rattle.channel_session.specs.Answering.{ServingAt, IsAnswering, IsAtWork}
-use Rattle.data_slots.specs.declared.slot.Stage.TheVariants.{Calls, Serves}
+use Rattle.data_slots.specs.declared.stage.Stage.TheVariants.{Calls, Serves}
 use Rattle.data_slots.specs.Stages.{IsStage}
-use Rattle.data_slots.specs.declared.slot.ServingResult.{ServingResult}
+use Rattle.data_slots.specs.declared.results.ServingResult.{ServingResult}
 use Rattle.task_duties.specs.declared.ends.DoneEnd.{DoneEnd}
 use Rattle.task_duties.specs.GivenEnds.{done_view}
 use Rattle.data_slots.specs.declared.side.Side.{Side}

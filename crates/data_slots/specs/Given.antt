@@ -2,7 +2,7 @@
 use Rattle.std.specs.Prelude.{List, map}
 use Rattle.task_duties.specs.declared.ends.DataEnd.{DataEnd}
 use Rattle.data_slots.specs.declared.slot.Slot.{Slot}
-use Rattle.data_slots.specs.declared.slot.Stage.TheVariants.{Unused}
+use Rattle.data_slots.specs.declared.stage.Stage.TheVariants.{Unused}
 
 abbrev pub unused_slot : DataEnd → Slot
 unused_slot d = record { from = d.from; to = d.to; port = d.port; stage = Unused d.end }

@@ -8,8 +8,8 @@ use Rattle.channel_session.specs.declared.pause.Turned.{Turned}
 use Rattle.channel_session.specs.Calling.{CallerAt, CallerTurns}
 use Rattle.channel_session.specs.Answering.{ServingAt, ServingTurns}
 use Rattle.channel_session.specs.Turning.{first_pace}
-use Rattle.data_slots.specs.declared.slot.Stage.{Stage}
-use Rattle.data_slots.specs.declared.slot.Stage.TheVariants as stage
+use Rattle.data_slots.specs.declared.stage.Stage.{Stage}
+use Rattle.data_slots.specs.declared.stage.Stage.TheVariants as stage
 use Rattle.data_slots.specs.declared.slot.Slot.{Slot}
 
 -- none has begun; or that of a caller, one whose page isn't offered yet, or that of a side that serves; or one that is over, by its retired end

@@ -18,9 +18,9 @@ use Rattle.qrexec_data.specs.CallerSide.{CallerState, CallerStandsFor}
 use Rattle.qrexec_data.specs.ServingSide.{ServingState, ServingStandsFor}
 use Rattle.channel_session.specs.Calling.{IsCalling}
 use Rattle.channel_session.specs.Answering.{IsAnswering, IsAtWork}
-use Rattle.data_slots.specs.declared.slot.Stage.{Stage}
-use Rattle.data_slots.specs.declared.slot.Stage.TheVariants.{Unused, Calls, Awaits, Serves, CallIsOver, ServingIsOver, Taken}
-use Rattle.data_slots.specs.declared.slot.CallerResult.{CallerResult}
+use Rattle.data_slots.specs.declared.stage.Stage.{Stage}
+use Rattle.data_slots.specs.declared.stage.Stage.TheVariants.{Unused, Calls, Awaits, Serves, CallIsOver, ServingIsOver, Taken}
+use Rattle.data_slots.specs.declared.results.CallerResult.{CallerResult}
 use Rattle.data_slots.specs.declared.slot.Slot.{Slot}
 use Rattle.data_slots.specs.declared.report.Report.{Report}
 use Rattle.data_slots.specs.declared.report.Report.TheVariants.{Call, Serving}

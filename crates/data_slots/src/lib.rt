@@ -10,11 +10,14 @@ mod ends;
 mod finish;
 mod index;
 mod note;
+mod opening;
 mod report;
+mod results;
 mod setup;
 mod side;
 mod slot;
 mod slots;
+mod stage;
 
 pub use done::{CallOver, DataDone};
 pub use side::retire_given;

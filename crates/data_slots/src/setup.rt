@@ -8,7 +8,8 @@ ghost use Rattle.data_slots.specs.Index.{IsIndexOf};
 
 use crate::index::{Index, index_of};
 use crate::note::CallNote;
-use crate::slot::{Slot, Stage};
+use crate::slot::Slot;
+use crate::stage::Stage;
 use std::alloc::{AllocError, Global};
 use task_duties::DataEnd;
 

@@ -42,9 +42,9 @@ use Rattle.task_duties.specs.contracts.ends.DataEnd as data_end
 use Rattle.data_slots.specs.contracts.note.CallNote as call_note
 use Rattle.data_slots.specs.contracts.note.ServedNote as served_note
 use Rattle.data_slots.specs.contracts.side.Side as side
-use Rattle.data_slots.proofs.slot.CallerResult.TheSendSync as caller_result
-use Rattle.data_slots.proofs.slot.ServingResult.TheSendSync as serving_result
-use Rattle.data_slots.specs.contracts.slot.Stage as stage
+use Rattle.data_slots.proofs.results.CallerResult.TheSendSync as caller_result
+use Rattle.data_slots.proofs.results.ServingResult.TheSendSync as serving_result
+use Rattle.data_slots.specs.contracts.stage.Stage as stage
 use Rattle.data_slots.specs.contracts.slot.Slot as slot
 use Rattle.data_slots.specs.contracts.ends.Ends as ends
 use Rattle.data_slots.specs.contracts.slots.DataSlots as slots

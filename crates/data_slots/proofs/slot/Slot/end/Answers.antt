@@ -2,7 +2,7 @@ use Rattle.std.proofs.Common.{ap, sym, ◌∙◌, subst}
 use Rattle.task_duties.specs.declared.place.PagePlace.TheVariants.{Payload}
 use Rattle.data_slots.specs.Stages.{framed, IsStage}
 use Rattle.data_slots.specs.Sessions.{ComesToItsEnd, session_of}
-use Rattle.data_slots.specs.declared.slot.Stage.{Stage}
+use Rattle.data_slots.specs.declared.stage.Stage.{Stage}
 use Rattle.data_slots.proofs.slot.Slot.end.Goals as goal
 
 pub returns-clause-frame : goal.returns-clause-frame

@@ -1,7 +1,7 @@
 use Rattle.std.proofs.Common.{◌≡◌, ap, sym, ◌∙◌, subst, Some}
 use Rattle.task_duties.specs.declared.place.PagePlace.TheVariants.{Payload}
 use Rattle.data_slots.specs.Stages.{Frame, told_of, framed, IsStage}
-use Rattle.data_slots.specs.declared.slot.Stage.{Stage}
+use Rattle.data_slots.specs.declared.stage.Stage.{Stage}
 use Rattle.std.specs.Prelude.{IfNone}
 use Rattle.data_slots.specs.Sessions.{TakesTurn, IsOver, session_of}
 use Rattle.data_slots.proofs.SessionLaws.{turn_open, ends_after}

@@ -4,14 +4,14 @@ use Rattle.task_duties.specs.GivenEnds.{done_view}
 use Rattle.service_gate.specs.Owing.{builtin_owes}
 use Rattle.qrexec_data.specs.declared.outcome.Outcome.{Outcome}
 use Rattle.task_duties.specs.Agent.Sessions.{ServingOwes}
-use Rattle.data_slots.specs.declared.slot.Stage.{Stage}
-use Rattle.data_slots.specs.declared.slot.Stage.TheVariants.{Serves}
-use Rattle.data_slots.specs.declared.slot.ServingResult.{ServingResult}
+use Rattle.data_slots.specs.declared.stage.Stage.{Stage}
+use Rattle.data_slots.specs.declared.stage.Stage.TheVariants.{Serves}
+use Rattle.data_slots.specs.declared.results.ServingResult.{ServingResult}
 use Rattle.data_slots.specs.Stages.{IsStage}
 use Rattle.data_slots.specs.Sessions.{EndedWith, ComesToItsEnd, session_of}
 use Rattle.data_slots.proofs.SideLaws.{serving_over}
 use Rattle.data_slots.proofs.SessionLaws.{call_ends, serving_ends}
-use Rattle.data_slots.proofs.slot.Stage.finish.Goals as goal
+use Rattle.data_slots.proofs.stage.Stage.finish.Goals as goal
 
 pub returns-in-Serves-clause-stage : goal.returns-in-Serves-clause-stage
 returns-in-Serves-clause-stage c = λ version stage name is_service.

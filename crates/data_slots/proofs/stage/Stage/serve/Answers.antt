@@ -1,8 +1,8 @@
 use Rattle.std.proofs.Common.{ap, sym, ◌∙◌}
-use Rattle.data_slots.specs.declared.slot.Stage.{Stage}
+use Rattle.data_slots.specs.declared.stage.Stage.{Stage}
 use Rattle.data_slots.specs.Slots.{held_of}
 use Rattle.data_slots.specs.Stages.{ForServing, Frame, end_of, is_late}
-use Rattle.data_slots.proofs.slot.Stage.serve.Goals as goal
+use Rattle.data_slots.proofs.stage.Stage.serve.Goals as goal
 
 pub returns-clause-frame : goal.returns-clause-frame
 returns-clause-frame c = λ place.

@@ -1,14 +1,14 @@
 use Rattle.std.proofs.Common.{ap, sym, ◌∙◌, subst}
 use Rattle.list_laws.proofs.Results.{on_ok}
 use Rattle.vchan_rule.specs.Seated.{view}
-use Rattle.data_slots.specs.declared.slot.Stage.{Stage}
+use Rattle.data_slots.specs.declared.stage.Stage.{Stage}
 use Rattle.data_slots.specs.Slots.{Held}
 use Rattle.data_slots.specs.Sides.{is_late_side}
 use Rattle.data_slots.specs.Stages.{ForCall, ForServing, Frame, framed, IsStage}
 use Rattle.data_slots.proofs.SideLaws.{same_held, calls_on, serves_on}
 use Rattle.data_slots.specs.Sessions.{Begins, TakesTurn, session_of}
 use Rattle.data_slots.proofs.SessionLaws.{call_takes, serving_takes, page_takes, told_then, begins_keeps, call_keeps, serving_keeps_on}
-use Rattle.data_slots.proofs.slot.Stage.turn.Goals as goal
+use Rattle.data_slots.proofs.stage.Stage.turn.Goals as goal
 
 pub returns-in-Calls-clause-frame : goal.returns-in-Calls-clause-frame
 returns-in-Calls-clause-frame c = λ place.

@@ -6,7 +6,7 @@ use Rattle.vchan_rule.specs.Seated.{view}
 use Rattle.page_offer.specs.Views.{named}
 use Rattle.data_slots.specs.Slots.{held_of}
 use Rattle.data_slots.specs.Stages.{ForServing, Frame}
-use Rattle.data_slots.proofs.slot.open_awaited.Goals as goal
+use Rattle.data_slots.proofs.opening.open_awaited.Goals as goal
 
 pub returns-in-Ok-clause-frame : goal.returns-in-Ok-clause-frame
 returns-in-Ok-clause-frame c = λ place.

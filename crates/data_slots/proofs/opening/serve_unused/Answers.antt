@@ -4,7 +4,7 @@ use Rattle.task_duties.specs.GivenEnds.{fresh_view}
 use Rattle.data_slots.specs.Slots.{held_of}
 use Rattle.data_slots.specs.Sides.{is_late_unused}
 use Rattle.data_slots.specs.Stages.{ForServing, Frame}
-use Rattle.data_slots.proofs.slot.serve_unused.Goals as goal
+use Rattle.data_slots.proofs.opening.serve_unused.Goals as goal
 
 pub returns-in-Laid-clause-frame : goal.returns-in-Laid-clause-frame
 returns-in-Laid-clause-frame c = λ place.

@@ -1,8 +1,8 @@
 use Rattle.std.proofs.Common.{ap, sym, ◌∙◌, subst}
-use Rattle.data_slots.specs.declared.slot.Stage.{Stage}
+use Rattle.data_slots.specs.declared.stage.Stage.{Stage}
 use Rattle.data_slots.specs.Stages.{framed, IsStage}
 use Rattle.data_slots.specs.Sessions.{Begins, session_of}
-use Rattle.data_slots.proofs.slot.Stage.open_now.Goals as goal
+use Rattle.data_slots.proofs.stage.Stage.open_now.Goals as goal
 
 pub returns-clause-frame : goal.returns-clause-frame
 returns-clause-frame c = λ place. c.opened.ensures.frame place ∙ ap (framed place) c.replace-stage.ensures.value

@@ -1,0 +1,224 @@
+//! How a data end is put to use: its page is laid or awaited, and its session begins.
+ghost use Rattle.std.specs.Prelude.{◌≡◌, ℕ, [], true, IfOk};
+ghost use Rattle.ring_words.specs.declared.page.Role.TheVariants.{Server, Client};
+ghost use Rattle.service_gate.specs.Owing.{builtin_owes};
+ghost use Rattle.qrexec_data.specs.ServingSide.{ServingStandsFor};
+ghost use Rattle.end_view.specs.EndView.{IsUnused};
+ghost use Rattle.vchan_rule.specs.Seated.{view};
+ghost use Rattle.page_offer.specs.Views.{unused_view};
+ghost use Rattle.task_duties.specs.declared.place.PagePlace.{PagePlace};
+ghost use Rattle.task_duties.specs.GivenEnds.{fresh_view};
+ghost use Rattle.channel_session.specs.Answering.{ServingAt};
+ghost use Rattle.channel_session.specs.Turning.{first_pace};
+ghost use Rattle.data_slots.specs.Slots.{held_of};
+ghost use Rattle.data_slots.specs.Sessions.{AwaitsPage, ServesWith, Begins, session_of};
+ghost use Rattle.data_slots.specs.Sides.{HasLaid, IsSideOf, seen_under, is_late_unused, is_late_side};
+ghost use Rattle.data_slots.specs.Stages.{ForCall, ForServing, IsStage, CanRetire, CanTurn, IsUnusedBy, IsNewCaller, IsNewServing, HasPage, is_session, framed};
+
+use crate::side::{Side, open_server};
+use crate::stage::Stage;
+use channel_session::{CallerSession, ServingSession};
+use page_offer::{LaidPage, UnlaidClient};
+use qrexec_data::{Caller, Serving};
+use service_gate::Builtin;
+use std::alloc::Global;
+use std::mem;
+use std::snapshot::Snapshot;
+use task_duties::UnusedEnd;
+use vchan_io::Memory;
+use vchan_rule::End;
+
+impl<'p> Stage<'p> {
+    /// Puts the end to the agent's own call with this number and this input. Its page is laid.
+    pub(crate) fn call(
+        self,
+        number: usize,
+        input: Snapshot<Vec<u8>>,
+        caller: Caller,
+        laid: Option<LaidPage>,
+    ) -> Stage<'p>
+        requires unused { IsUnusedBy Server self }
+        requires laid { HasPage self laid }
+        requires caller { IsNewCaller caller }
+        requires input { caller.requests.input ≡ input.value.items }
+        ensures frame { (place : PagePlace) → framed place result ≡ record (framed place self.entry) { used = ForCall number input.value.items } }
+        ensures stage { IsStage caller.replies.own result }
+        ensures session { is_session result ≡ true }
+        ensures retire { CanRetire result }
+    {
+        match self {
+            Stage::Unused { end } => {
+                let (end, side) = open_server(end, laid);
+                Stage::Calls {
+                    number,
+                    input,
+                    side,
+                    session: CallerSession::new(caller, end),
+                }
+            }
+            _ => unreachable!(),
+        }
+    }
+
+    /// Puts the end to a call that is served under this number, by a side that has this service.
+    pub(crate) fn serve(
+        self,
+        number: usize,
+        service: Snapshot<Builtin>,
+        serving: Serving<Builtin>,
+    ) -> Stage<'p>
+        requires unused { IsUnusedBy Client self }
+        requires serving { IsNewServing serving }
+        requires service { ServingStandsFor builtin_owes (builtin_owes service.value) serving [] }
+        ensures frame { (place : PagePlace) → framed place result ≡ record (framed place self.entry) { used = ForServing number service.value } }
+        ensures stage { IsStage serving.answering.own result }
+        ensures session { is_session result ≡ true }
+        ensures retire { CanRetire result }
+    {
+        match self {
+            Stage::Unused { end } => serve_unused(end, number, service, serving),
+            _ => unreachable!(),
+        }
+    }
+
+    /// Begins the session of an awaited page, if the page is offered.
+    pub(crate) fn open_offered(&mut self)
+        requires open { CanTurn self.old }
+        requires retire { CanRetire self.old }
+        ensures open { CanTurn self.new }
+        ensures retire { CanRetire self.new }
+        ensures frame { (place : PagePlace) → framed place self.new ≡ framed place self.old }
+        ensures begins { Begins (session_of self.old) (session_of self.new) }
+        ensures stage { (version : ℕ) → IsStage version self.old → IsStage version self.new }
+    {
+        if !matches!(self, Stage::Awaits { .. }) {
+            return;
+        }
+        self.open_now();
+    }
+
+    // Begins the session of an awaited page, if the page is offered. A function apart, so that the turns of
+    // other sessions don't pay for the room of a whole stage.
+    #[inline(never)]
+    fn open_now(&mut self)
+        requires open { CanTurn self.old }
+        requires retire { CanRetire self.old }
+        ensures open { CanTurn self.new }
+        ensures retire { CanRetire self.new }
+        ensures frame { (place : PagePlace) → framed place self.new ≡ framed place self.old }
+        ensures begins { Begins (session_of self.old) (session_of self.new) }
+        ensures stage { (version : ℕ) → IsStage version self.old → IsStage version self.new }
+    {
+        let stage = mem::replace(self, Stage::Taken);
+        *self = stage.opened();
+    }
+
+    // Does the same by value, if the page is offered with its session.
+    fn opened(self) -> Stage<'p>
+        requires open { CanTurn self }
+        requires retire { CanRetire self }
+        ensures open { CanTurn result }
+        ensures retire { CanRetire result }
+        ensures begins { Begins (session_of self.entry) (session_of result) }
+        ensures frame { (place : PagePlace) → framed place result ≡ framed place self.entry }
+        ensures stage { (version : ℕ) → IsStage version self.entry → IsStage version result }
+    {
+        match self {
+            Stage::Awaits {
+                number,
+                service,
+                serving,
+                side,
+            } => open_awaited(number, service, serving, side),
+            stage => stage,
+        }
+    }
+}
+
+/// Lays the page of an unused end, if that is the end's part.
+pub(crate) fn lay(end: &UnusedEnd, alloc: Global) -> Result<Option<LaidPage>, Memory>
+    ensures { IfOk result (λ laid. HasLaid end.now laid) }
+{
+    match end {
+        UnusedEnd::Server(side) => Ok(Some(side.lay(alloc)?)),
+        _ => Ok(None),
+    }
+}
+
+// Puts an unused end of a client to a call that is served under this number.
+fn serve_unused<'p>(
+    end: UnusedEnd<'p>,
+    number: usize,
+    service: Snapshot<Builtin>,
+    serving: Serving<Builtin>,
+) -> Stage<'p>
+    requires unused { IsUnused (fresh_view end) × ((fresh_view end).role ≡ Client) }
+    requires serving { IsNewServing serving }
+    requires service { ServingStandsFor builtin_owes (builtin_owes service.value) serving [] }
+    ensures frame { (place : PagePlace) → framed place result ≡ record { held = held_of place (fresh_view end.entry); used = ForServing number service.value; late = is_late_unused end.entry } }
+    ensures stage { IsStage serving.answering.own result }
+    ensures session { is_session result ≡ true }
+    ensures retire { CanRetire result }
+{
+    match end {
+        UnusedEnd::Laid(end) => serve_at(number, service, serving, Side::Laid, end),
+        UnusedEnd::Client(side) => Stage::Awaits {
+            number,
+            service,
+            serving,
+            side,
+        },
+        UnusedEnd::Server(_) => unreachable!(),
+    }
+}
+
+// The serving under this number, once its page is offered.
+fn open_awaited<'p>(
+    number: usize,
+    service: Snapshot<Builtin>,
+    serving: Serving<Builtin>,
+    side: UnlaidClient,
+) -> Stage<'p>
+    requires { IsNewServing serving }
+    ensures open { CanTurn result }
+    ensures begins { Begins AwaitsPage (session_of result) }
+    ensures retire { CanRetire result }
+    ensures frame { (place : PagePlace) → framed place result ≡ record { held = held_of place (unused_view side Client); used = ForServing number service.value; late = true } }
+    ensures stage { ServingStandsFor builtin_owes (builtin_owes service.value) serving [] → IsStage serving.answering.own result }
+{
+    match side.open() {
+        Ok((end, side)) => serve_at(number, service, serving, Side::Client(side), end),
+        Err(side) => Stage::Awaits {
+            number,
+            service,
+            serving,
+            side,
+        },
+    }
+}
+
+// The serving under this number at this end, which has done nothing yet.
+fn serve_at<'p>(
+    number: usize,
+    service: Snapshot<Builtin>,
+    serving: Serving<Builtin>,
+    side: Side,
+    end: End<'p>,
+) -> Stage<'p>
+    requires serving { IsNewServing serving }
+    requires unused { IsUnused (view end) × ((view end).role ≡ Client) }
+    requires side { IsSideOf side (view end) }
+    ensures open { CanTurn result }
+    ensures begins { (at : ServingAt) × (session_of result ≡ ServesWith at) × (at.pace ≡ first_pace) }
+    ensures session { is_session result ≡ true }
+    ensures retire { CanRetire result }
+    ensures frame { (place : PagePlace) → framed place result ≡ record { held = held_of place (seen_under side (view end.entry)); used = ForServing number service.value; late = is_late_side side } }
+    ensures stage { ServingStandsFor builtin_owes (builtin_owes service.value) serving [] → IsStage serving.answering.own result }
+{
+    Stage::Serves {
+        number,
+        service,
+        side,
+        session: ServingSession::start(serving, end),
+    }
+}
