@@ -16,8 +16,6 @@ pub mod laws;
 mod ports;
 mod settle;
 mod table;
-#[cfg(test)]
-mod tests;
 
 pub use broker::Broker;
 pub use decision::{Cause, Decision, Entry};

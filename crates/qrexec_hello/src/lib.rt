@@ -6,7 +6,5 @@
 #![tactic(auto)]
 
 mod hello;
-#[cfg(test)]
-mod tests;
 
 pub use hello::{Hello, HelloFault};

@@ -88,30 +88,3 @@ impl Orders {
         }
     }
 }
-
-#[cfg(test)]
-mod tests {
-    use super::*;
-
-    #[test]
-    fn orders_are_ten_to_twenty(rt: HostRuntime) {
-        let sizes = [
-            (0, None),
-            (9, None),
-            (10, Some(1024)),
-            (11, Some(2048)),
-            (20, Some(1_048_576)),
-            (21, None),
-            (u16::MAX, None),
-        ];
-        for (number, size) in sizes {
-            let order = Order::new(number);
-            assert_eq!(rt; order.map(|order| order.size()), size, "at {number}");
-            assert_eq!(rt;
-                order.map(|order| order.number()),
-                size.map(|_| number),
-                "at {number}"
-            );
-        }
-    }
-}

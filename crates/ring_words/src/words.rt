@@ -105,38 +105,3 @@ impl Words {
         }
     }
 }
-
-#[cfg(test)]
-mod tests {
-    use super::*;
-    use crate::choice::check_orders;
-    use std::test::Fail;
-
-    #[test]
-    fn holds_what_was_stored(rt: HostRuntime) -> Result<(), Fail> {
-        let orders = check_orders(10, 11)?;
-        let layout = Layout::new(orders);
-        let mut words = Words::of(orders, vec![in rt.alloc(); 0u64; layout.count()]?);
-        let first = WordName::RingByte {
-            ring: Ring::Right,
-            at: 0,
-        };
-        assert!(rt; layout.has(first));
-        words.store(WordName::RightProd, 4_294_967_295);
-        words.store(first, u64::MAX);
-        assert_eq!(rt; words.load(WordName::RightProd), 4_294_967_295);
-        assert_eq!(rt; words.load(first), u64::MAX);
-        assert_eq!(rt; words.load(WordName::LeftProd), 0);
-        assert_eq!(rt; words.orders(), orders);
-        assert_eq!(rt; orders.left.size(), 1024);
-        words.store_bytes(Ring::Left, 1022, b"xy");
-        let mut bytes = [0u8; 3];
-        words.load_bytes(Ring::Left, 1021, &mut bytes);
-        assert_eq!(rt; bytes, *b"\0xy");
-        let list = words.list();
-        assert_eq!(rt; list.len(), 3086);
-        assert_eq!(rt; list[3], 4_294_967_295);
-        assert_eq!(rt; list[1038], u64::MAX);
-        Ok(())
-    }
-}

@@ -18,6 +18,3 @@ pub use lines::{LineReader, MOST_LINES, NextLine, TooManyLines};
 pub use number::{is_number, parse_number};
 pub use place::place_in;
 pub use words::{WordsOfLine, cut_at, first_line};
-
-#[cfg(test)]
-mod tests;

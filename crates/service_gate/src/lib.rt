@@ -13,8 +13,6 @@ mod builtin;
 mod gate;
 mod naming;
 mod service;
-#[cfg(test)]
-mod tests;
 
 pub use answer::{Answer, serve};
 pub use boxed::Boxed;

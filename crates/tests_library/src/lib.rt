@@ -6,9 +6,15 @@
 #![tactic(auto)]
 
 #[cfg(test)]
+mod broker;
+#[cfg(test)]
 mod errors;
 #[cfg(test)]
 mod frames;
+#[cfg(test)]
+mod hello;
+#[cfg(test)]
+mod io;
 #[cfg(test)]
 mod refusals;
 #[cfg(test)]
@@ -16,4 +22,8 @@ mod scenarios;
 #[cfg(test)]
 mod scripts;
 #[cfg(test)]
+mod services;
+#[cfg(test)]
 mod sessions;
+#[cfg(test)]
+mod words;

@@ -1,4 +1,8 @@
-use super::*;
+//! Lines, words, numbers and byte strings of scripts.
+use script_words::{
+    ByteError, LineReader, NextLine, PushError, TooManyLines, WordsOfLine, bytes_of, first_line,
+    is_number, parse_number, push_bytes_of,
+};
 use std::test::Fail;
 
 /// Words and the bytes that they spell.

@@ -2,15 +2,15 @@
 //! streams. Contracts state all that memory streams do, so these tests look for calls that never succeed.
 ghost use Rattle.std.specs.Prelude.{◌≡◌, ◌≤◌, IfOk};
 
-use crate::{
-    Failed, GREATEST_LIMIT, MemSink, MemSource, Memory, ReadAllError, Sink, Source, StdSink,
-    StdSource, WriteFault, read_all, write_all,
-};
 use std::alloc::{AllocError, Global};
 use std::io::{ErrorKind, Read, Write};
 use std::rt::Runtime;
 use std::test::Fail;
 use std::{env, fs, io, process};
+use vchan_io::{
+    Failed, GREATEST_LIMIT, MemSink, MemSource, Memory, ReadAllError, Sink, Source, StdSink,
+    StdSource, WriteFault, read_all, write_all,
+};
 
 fn source_of(alloc: Global, text: &str, most: usize, fails: &[u64]) -> Result<MemSource, AllocError>
     requires { 1 ≤ most }

@@ -1,6 +1,6 @@
 use Rattle.std.proofs.Common.{◌≡◌}
 use Rattle.call_broker.specs.Domains.{count_of}
-use Rattle.call_broker.proofs.tests.check_rows.Given as goal
+use Rattle.tests_library.proofs.broker.check_rows.Given as goal
 
 abbrev pub invariant-loop-told : goal.invariant-loop-told
 invariant-loop-told g l = count_of l.broker.hub ≡ l.domains

@@ -1,5 +1,6 @@
-use crate::hello::{Hello, HelloFault};
+//! The version on which both sides of a channel go on.
 use qrexec_frame::Message;
+use qrexec_hello::{Hello, HelloFault};
 use std::test::Fail;
 
 #[test]

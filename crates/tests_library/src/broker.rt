@@ -3,7 +3,7 @@
 ghost use Rattle.std.specs.Prelude.{◌≡◌, ◌≤◌, ◌*◌, OnOk, IfOk, All, length, vec_len};
 ghost use Rattle.call_broker.specs.Domains.{count_of};
 
-use crate::{Broker, Cause, Decision, DomainEntry, Event};
+use call_broker::{Broker, Cause, Decision, DomainEntry, Event};
 use qrexec_frame::{Text, clean_name, clean_service, clean_target};
 use std::alloc::Global;
 use std::process::Abort;

@@ -1,6 +1,7 @@
+//! The services by name, an object of the caller's as a service, and the gate that holds nobody.
 ghost use Rattle.std.specs.Prelude.{[], codes, negsuc};
 
-use super::*;
+use service_gate::{Answer, Boxed, Builtin, Gate, OpenGate, Service, serve};
 use std::alloc::Global;
 use std::test::Fail;
 use vchan_io::Memory;
