@@ -1,7 +1,7 @@
 -- The version that was agreed on is that of the bytes that came, so it stays.
 use Rattle.std.proofs.Common.{◌≡◌, ℕ, List, [], ◌∷◌, ◌++◌, length, refl, ap, sym, ◌∙◌, Some, None, Option, subst}
 use Rattle.std.specs.Prelude.{Bool, Ok}
-use Rattle.qrexec_frame.specs.declared.channel.Channel.TheVariants.{Control}
+use Rattle.qrexec_frame.specs.declared.kind.Channel.TheVariants.{Control}
 use Rattle.qrexec_frame.specs.declared.message.Message.{Message}
 use Rattle.qrexec_frame.specs.Grammar.{Fault}
 use Rattle.qrexec_frame.specs.Fronts.{front, reading}

@@ -12,7 +12,7 @@ use Rattle.std.proofs.Common.{get_or}
 use Rattle.std.proofs.Math.Seq.{drop-cons}
 use Rattle.std.proofs.lemmas.List.{drop-map}
 use Rattle.std.proofs.lemmas.Bool.{false_from_ne_true}
-use Rattle.call_broker.specs.declared.domain.DomainEntry.{DomainEntry}
+use Rattle.call_broker.specs.declared.index.DomainEntry.{DomainEntry}
 use Rattle.call_broker.specs.Domains.{place_of}
 
 -- the order of names as keys

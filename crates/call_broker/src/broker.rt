@@ -7,9 +7,8 @@ ghost use Rattle.std.specs.List.{list_any};
 
 use crate::calls::{MOST_LIVE, MOST_PAGES};
 use crate::decision::{Cause, Decision, Entry};
-use crate::domain::DomainEntry;
 use crate::event::Event;
-use crate::index::{self, Index};
+use crate::index::{self, DomainEntry, Index};
 use crate::ports::{pair_by_port, port_after};
 use crate::settle::{append, settle};
 use crate::table::{self, Table};

@@ -1,11 +1,18 @@
-//! The domains by their names.
+//! The domains of a broker, and their numbers by their names.
 ghost use Rattle.std.specs.Prelude.{◌≡◌, ◌<◌, ◌^◌, length, map, IfOk};
 ghost use Rattle.call_broker.specs.Domains.{domain_at};
 ghost use Rattle.call_broker.specs.Tables.{number_in, IsIndex};
 
-use crate::domain::DomainEntry;
+use qrexec_frame::Text;
 use std::alloc::{AllocError, Global};
 use std::collections::BTreeMap;
+
+/// A domain that a broker serves. Its number is its place in the list of domains, from 1 on.
+#[derive(Debug, Drop)]
+pub struct DomainEntry {
+    /// Its name, by which triggers name their targets.
+    pub name: Text,
+}
 
 /// The numbers of the domains, by their names.
 pub(crate) type Index = BTreeMap<Vec<u8>, u32>;

@@ -9,7 +9,6 @@
 mod broker;
 mod calls;
 mod decision;
-mod domain;
 mod event;
 mod index;
 pub mod laws;
@@ -19,6 +18,6 @@ mod table;
 
 pub use broker::Broker;
 pub use decision::{Cause, Decision, Entry};
-pub use domain::DomainEntry;
 pub use event::Event;
+pub use index::DomainEntry;
 pub use ports::port_after;

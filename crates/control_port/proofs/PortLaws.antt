@@ -4,7 +4,7 @@ use Rattle.std.specs.Prelude.{Bool, Result, Ok, Err, IfOk, IsSome}
 use Rattle.std.specs.List.{flat_map, AllByRecursion as Each}
 use Rattle.std.proofs.lemmas.List.{append-nil}
 use Rattle.list_laws.specs.Lists.{IsPrefixOf}
-use Rattle.qrexec_frame.specs.declared.channel.Channel.TheVariants.{Control}
+use Rattle.qrexec_frame.specs.declared.kind.Channel.TheVariants.{Control}
 use Rattle.qrexec_frame.specs.declared.fault.FrameFault.{FrameFault}
 use Rattle.qrexec_frame.specs.declared.fault.NextError.TheVariants as error
 use Rattle.qrexec_frame.specs.declared.message.Message.{Message}
@@ -37,7 +37,7 @@ use Rattle.vchan_lifecycle.specs.declared.DrainAnswer.TheVariants.{More}
 use Rattle.vchan_packet.specs.Packet.{sent_to}
 use Rattle.vchan_packet.specs.declared.SendAnswer.{SendAnswer}
 use Rattle.vchan_packet.specs.declared.SendAnswer.TheVariants.{Sent, NoRoom, PeerClosed}
-use Rattle.vchan_io.specs.declared.memory.Memory.{Memory}
+use Rattle.vchan_io.specs.declared.faults.Memory.{Memory}
 use Rattle.end_view.specs.EndView.{EndView}
 use Rattle.task_duties.specs.Hearing.{hears_on}
 use Rattle.control_port.specs.Talking.{may_say, may_hear}

@@ -1,6 +1,6 @@
 -- What a control port stands for: the messages that its end sent, and those that it handed out.
 use Rattle.std.specs.Prelude.{◌≡◌, ◌%◌, ◌^◌, ◌<◌, ℕ, length, Bool, false, List, [], ◌∷◌, ◌++◌, Option, Some, None, IsSome, true, map, Ok}
-use Rattle.qrexec_frame.specs.declared.channel.Channel.TheVariants.{Control}
+use Rattle.qrexec_frame.specs.declared.kind.Channel.TheVariants.{Control}
 use Rattle.qrexec_frame.specs.declared.message.Message.{Message}
 use Rattle.qrexec_frame.specs.Decoding.{DecoderState, StandsFor}
 use Rattle.qrexec_frame.specs.Streams.{Placed}

@@ -7,7 +7,7 @@ use Rattle.std.proofs.lemmas.Bool.Decides.{nat_tests}
 use Rattle.std.proofs.lemmas.List.{append-nil}
 use Rattle.std.specs.List.{flat_map, AllByRecursion as Each}
 use Rattle.list_laws.specs.Lists.{IsPrefixOf}
-use Rattle.qrexec_frame.specs.declared.channel.Channel.TheVariants.{Data}
+use Rattle.qrexec_frame.specs.declared.kind.Channel.TheVariants.{Data}
 use Rattle.qrexec_frame.specs.declared.message.Message.{Message}
 use Rattle.qrexec_frame.specs.declared.message.Message.TheVariants.{Hello, ExitCode}
 use Rattle.qrexec_frame.specs.Messages.{written}

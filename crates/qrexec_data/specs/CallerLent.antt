@@ -2,7 +2,7 @@
 use Rattle.std.specs.Prelude.{ℕ, List, Result, IfOk}
 use Rattle.std.specs.Borrow.{MutBor, Bor, Fml}
 use Rattle.std.specs.Io.BufRead.{Rests}
-use Rattle.vchan_io.specs.declared.memory.Memory.{Memory}
+use Rattle.vchan_io.specs.declared.faults.Memory.{Memory}
 use Rattle.qrexec_data.specs.CallerSide.{CallerState, LendsRequests}
 use Rattle.qrexec_data.specs.contracts.caller.Caller.{the_row}
 

@@ -1,6 +1,6 @@
 -- The bytes that a side has got, and how far it has read them.
 use Rattle.std.specs.Prelude.{◌≡◌, ℕ, ◌≤◌, List, length, take, drop, Option, Some}
-use Rattle.qrexec_frame.specs.declared.channel.Channel.TheVariants.{Data}
+use Rattle.qrexec_frame.specs.declared.kind.Channel.TheVariants.{Data}
 use Rattle.qrexec_frame.specs.declared.message.Message.{Message}
 use Rattle.qrexec_frame.specs.Fronts.{reading}
 use Rattle.qrexec_frame.specs.Streams.{Placed, Rest}

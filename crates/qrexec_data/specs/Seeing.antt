@@ -1,7 +1,7 @@
 -- What each side of a call makes of the bytes that it got.
 -- Source: the qrexec protocol's data channel; which message is wrong on which side is this project's own.
 use Rattle.std.specs.Prelude.{ℤ, ℕ, ◌%◌, ◌^◌, Bool, List, [], ◌∷◌, Option, Some, None, Result, Ok, Err, if◌then◌else◌}
-use Rattle.qrexec_frame.specs.declared.channel.Channel.TheVariants.{Data}
+use Rattle.qrexec_frame.specs.declared.kind.Channel.TheVariants.{Data}
 use Rattle.qrexec_frame.specs.declared.message.Message.{Message}
 use Rattle.qrexec_frame.specs.declared.message.Message.TheVariants.{ExitCode}
 use Rattle.qrexec_frame.specs.Kinds.{number_of}

@@ -1,6 +1,6 @@
 //! The bytes that a side of a call gets.
 ghost use Rattle.std.specs.Prelude.{◌≡◌, ◌+◌, ◌≤◌, ◌++◌, [], length, take, OnOk, OnErr};
-ghost use Rattle.qrexec_frame.specs.declared.channel.Channel.TheVariants.{Data};
+ghost use Rattle.qrexec_frame.specs.declared.kind.Channel.TheVariants.{Data};
 ghost use Rattle.qrexec_frame.specs.Bodies.{StandsAtFront};
 ghost use Rattle.qrexec_data.specs.Reading.{unread};
 

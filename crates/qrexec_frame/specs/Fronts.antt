@@ -1,7 +1,7 @@
 -- What stands at the front of some bytes of a channel, and what a whole stream holds.
 use Rattle.std.specs.Prelude.{ℕ, ◌+◌, ◌%◌, ◌^◌, ◌==◌, ◌&&◌, not, nat_lt, if◌then◌else◌, List, length, take, drop, Option, Some, None}
 use Rattle.std.specs.Int.{w32, cast_signed}
-use Rattle.qrexec_frame.specs.declared.channel.Channel.{Channel}
+use Rattle.qrexec_frame.specs.declared.kind.Channel.{Channel}
 use Rattle.qrexec_frame.specs.declared.fault.FrameFault.{FrameFault}
 use Rattle.qrexec_frame.specs.declared.fault.FrameFault.TheVariants as frame
 use Rattle.qrexec_frame.specs.declared.message.Message.{Message}

@@ -1,7 +1,7 @@
 -- The grammar of qrexec messages as a relation on whole byte lists, and the conditions of the faults.
 use Rattle.std.specs.Prelude.{◌≡◌, ◌≢◌, ℕ, ◌+◌, ◌-◌, ◌<◌, ◌≤◌, ◌⊎◌, List, ◌++◌, length, take, drop, slice_index, Some, None, true}
 use Rattle.std.specs.Int.{w32, from_le_bytes, cast_signed}
-use Rattle.qrexec_frame.specs.declared.channel.Channel.{Channel}
+use Rattle.qrexec_frame.specs.declared.kind.Channel.{Channel}
 use Rattle.qrexec_frame.specs.declared.message.Message.{Message}
 use Rattle.qrexec_frame.specs.declared.message.Message.TheVariants.{Hello, Stdin, Stdout, Stderr, ExitCode, Exec, JustExec, Connect, Refused, Terminated, Trigger3, Trigger}
 use Rattle.qrexec_frame.specs.declared.kind.Kind.{Kind}

@@ -1,7 +1,7 @@
 -- The table of message types of the qrexec protocol.
 use Rattle.std.specs.Prelude.{ℕ, ◌==◌, Bool, true, false, List, [], ◌∷◌, Option, find}
-use Rattle.qrexec_frame.specs.declared.channel.Channel.{Channel}
-use Rattle.qrexec_frame.specs.declared.channel.Channel.TheVariants.{Control, Data}
+use Rattle.qrexec_frame.specs.declared.kind.Channel.{Channel}
+use Rattle.qrexec_frame.specs.declared.kind.Channel.TheVariants.{Control, Data}
 use Rattle.qrexec_frame.specs.declared.kind.Kind.{Kind}
 use Rattle.qrexec_frame.specs.declared.kind.Kind.TheVariants.{Hello, Stdin, Stdout, Stderr, ExitCode, Exec, JustExec, Connect, Refused, Terminated, Trigger3, Trigger}
 

@@ -6,10 +6,10 @@ ghost use Rattle.qrexec_frame.specs.Messages.{IsSpellable, GoesOn};
 ghost use Rattle.qrexec_frame.specs.Printing.{Printed};
 ghost use Rattle.qrexec_frame.specs.Decoding.{after_feed, held, Answers, FollowsGrammar, StandsFor, Reads};
 
-use crate::channel::Channel;
 use crate::encoding::{HEADER, put};
 use crate::fault::{FrameFault, NextError};
 use crate::front::{Body, message_of};
+use crate::kind::Channel;
 use crate::line::put_body;
 use crate::message::Message;
 use std::alloc::Global;

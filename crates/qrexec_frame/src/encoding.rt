@@ -1,5 +1,5 @@
 ghost use Rattle.std.specs.Prelude.{◌≡◌, ◌+◌, ◌≤◌, ◌++◌, List, ℕ, length, OnOk, OnErr, vec_len, vec_capacity};
-ghost use Rattle.qrexec_frame.specs.declared.channel.Channel.{Channel};
+ghost use Rattle.qrexec_frame.specs.declared.kind.Channel.{Channel};
 ghost use Rattle.qrexec_frame.specs.Messages.{Fits, HasNumbers, GoesOn, body_of, four, written};
 ghost use Rattle.qrexec_frame.specs.Grammar.{Spelled};
 ghost use Rattle.qrexec_frame.specs.Fronts.{front, made};

@@ -7,10 +7,9 @@ ghost use Rattle.qrexec_frame.specs.Messages.{HasNumbers};
 ghost use Rattle.qrexec_frame.specs.Texts.{field_text, line_text};
 
 use crate::bytes::Bytes;
-use crate::channel::Channel;
 use crate::encoding::HEADER;
 use crate::fault::FrameFault;
-use crate::kind::{Kind, MOST_BODY};
+use crate::kind::{Channel, Kind, MOST_BODY};
 use crate::message::Message;
 use crate::text::{Text, before_nul};
 use std::alloc::{AllocError, Global};

@@ -2,7 +2,15 @@
 ghost use Rattle.std.specs.Prelude.{◌≡◌, true, false};
 ghost use Rattle.qrexec_frame.specs.Kinds.{kind_on, number_of, least_len, most_len, has_line};
 
-use crate::channel::Channel;
+/// The two kinds of channel that carry qrexec messages: one control channel per domain, and one data
+/// channel per call.
+#[derive(Clone, Copy, Debug, PartialEq, Eq)]
+pub enum Channel {
+    /// The channel of a domain, for triggers and their answers.
+    Control,
+    /// The channel of one call, for its streams and its exit code.
+    Data,
+}
 
 /// The greatest length of a body.
 pub(crate) const MOST_BODY: u32 = 65_536;

@@ -8,7 +8,6 @@
 #![tactic(auto)]
 
 mod bytes;
-mod channel;
 mod clean;
 mod decoder;
 mod encoding;
@@ -21,13 +20,12 @@ mod message;
 mod text;
 
 pub use bytes::Bytes;
-pub use channel::Channel;
 pub use clean::{clean_name, clean_service, clean_target};
 pub use decoder::Decoder;
 pub use encoding::{encode, encode_data};
 pub use fault::{FrameFault, NextError};
 pub use front::Body;
-pub use kind::Kind;
+pub use kind::{Channel, Kind};
 pub use line::{message_line, push_message_line};
 pub use message::{Message, fits};
 pub use text::{Text, TextError};

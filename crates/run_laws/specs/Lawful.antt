@@ -3,7 +3,7 @@
 use Rattle.std.specs.Prelude.{◌≡◌, ◌≢◌, ◌⊎◌, ℕ, ℤ, nat_lt, ◌==◌, ◌&&◌, ◌||◌, Bool, true, false, List, [], ◌∷◌, map, filter, filter_map, slice_get, is_some, bytes_eq, Contains, AllPairs, IsPermutation, IsSome, Option, Some, None, if◌then◌else◌}
 use Rattle.std.specs.List.{flat_map, AllByRecursion as Each, AllZip as EachPair}
 use Rattle.vchan_protocol.specs.declared.side.EndedBy.TheVariants.{AllRead, PeerGone}
-use Rattle.qrexec_frame.specs.declared.channel.Channel.TheVariants as channel
+use Rattle.qrexec_frame.specs.declared.kind.Channel.TheVariants as channel
 use Rattle.qrexec_frame.specs.declared.message.Message.{Message}
 use Rattle.qrexec_frame.specs.declared.message.Message.TheVariants as message
 use Rattle.qrexec_frame.specs.Fronts.{reading}

@@ -4,7 +4,7 @@ use Rattle.std.specs.Result.{IsOk}
 use Rattle.std.proofs.lemmas.Bool.{false≢true}
 use Rattle.std.proofs.lemmas.List.{append_assoc, append-nil}
 use Rattle.list_laws.specs.Results.{◌>>=◌}
-use Rattle.qrexec_frame.specs.declared.channel.Channel.{Channel}
+use Rattle.qrexec_frame.specs.declared.kind.Channel.{Channel}
 use Rattle.qrexec_frame.specs.Fronts.{reading}
 use Rattle.stream_text.specs.Texts.{decoded, text_of}
 use Rattle.stream_text.specs.declared.error.DecodeKind.{DecodeKind}

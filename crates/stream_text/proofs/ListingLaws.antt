@@ -2,7 +2,7 @@
 use Rattle.std.proofs.Common.{◌≡◌, ℕ, Bool, true, false, List, [], ◌∷◌, ◌++◌, length, Option, Some, None, Result, Ok, Err, codes, refl, sym, ap, subst, ◌∙◌}
 use Rattle.std.proofs.lemmas.List.{append_assoc, append-nil}
 use Rattle.std.proofs.lemmas.Grind.{flat_map-append}
-use Rattle.qrexec_frame.specs.declared.channel.Channel.{Channel}
+use Rattle.qrexec_frame.specs.declared.kind.Channel.{Channel}
 use Rattle.qrexec_frame.specs.declared.fault.FrameFault.{FrameFault}
 use Rattle.qrexec_frame.specs.declared.fault.NextError.{NextError}
 use Rattle.qrexec_frame.specs.declared.fault.NextError.TheVariants as error

@@ -3,7 +3,7 @@ use Rattle.std.proofs.Common.{◌≡◌, ◌<◌, List, [], ◌∷◌, ◌++◌,
 use Rattle.std.specs.List.{AllZip}
 use Rattle.std.proofs.lemmas.Slice.Zip.{AllZip-long}
 use Rattle.list_laws.proofs.Pairs.{pairs_append}
-use Rattle.task_pool.specs.declared.hand.Hand.{Hand}
+use Rattle.task_pool.specs.declared.queue.Hand.{Hand}
 use Rattle.task_pool.specs.declared.waiting.Finished.{Finished}
 use Rattle.task_pool.specs.Results.{IsPaid, Ends, Keeps}
 

@@ -8,7 +8,7 @@ use mathlib.Core.Option.{some, some_injective, some_ne_none}
 use lib.ListN.{get_elem?}
 use Rattle.crossbeam_queue.specs.Fifo.{Pushes, Pops, Forks, Merges, Learns}
 use Rattle.crossbeam_queue.proofs.Lists.{at_set, at_snoc}
-use Rattle.task_pool.specs.declared.hand.Hand.{Hand}
+use Rattle.task_pool.specs.declared.queue.Hand.{Hand}
 use Rattle.task_pool.specs.declared.waiting.Waiting.{Waiting}
 use Rattle.task_pool.specs.Hand.{hand, all_parts}
 use Rattle.task_pool.specs.Rule.{below, kept_weight, IsLaid, Fits, Owing, Holds, Takes, Lays, Gives, Counts}

@@ -1,6 +1,6 @@
 -- What a pass of the queue knows, as a record of its three parts.
 use Rattle.std.specs.Prelude.{ℕ, List}
-use Rattle.task_pool.specs.declared.hand.Hand.{Hand}
+use Rattle.task_pool.specs.declared.queue.Hand.{Hand}
 
 -- all parts of the right to know every pass
 abbrev pub all_parts : ℕ

@@ -2,7 +2,7 @@
 use Rattle.std.specs.Prelude.{◌≡◌, ℕ, ◌<◌, List, [], ◌∷◌, ◌++◌, length, slice_get, Option, Some}
 use Rattle.std.specs.List.{AllByRecursion, AllZip}
 use Rattle.crossbeam_queue.specs.Fifo.{Held}
-use Rattle.task_pool.specs.declared.hand.Hand.{Hand}
+use Rattle.task_pool.specs.declared.queue.Hand.{Hand}
 use Rattle.task_pool.specs.declared.waiting.Finished.{Finished}
 use Rattle.task_pool.specs.declared.waiting.Tried.{Tried}
 use Rattle.task_pool.specs.declared.waiting.Tried.TheVariants.{Idle, Again, Over}

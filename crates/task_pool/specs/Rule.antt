@@ -3,7 +3,7 @@ use Rattle.std.specs.Prelude.{◌≡◌, ℕ, zero, suc, ◌+◌, ◌-◌, ◌<�
 use Rattle.std.specs.List.{AllByRecursion}
 use mathlib.Core.Option.{some}
 use lib.ListN.{get_elem?}
-use Rattle.task_pool.specs.declared.hand.Hand.{Hand}
+use Rattle.task_pool.specs.declared.queue.Hand.{Hand}
 use Rattle.task_pool.specs.declared.waiting.Waiting.{Waiting}
 use Rattle.task_pool.specs.Hand.{hand, all_parts}
 

@@ -6,7 +6,6 @@
 #![tactic(auto)]
 
 mod account;
-mod hand;
 mod lay;
 mod pool;
 mod progress;

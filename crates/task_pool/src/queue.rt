@@ -6,12 +6,23 @@ ghost use Rattle.std.specs.Prelude.{◌≡◌, ◌+◌, ◌-◌, [], ◌++◌};
 ghost use Rattle.task_pool.specs.Rule.{Holds, Takes, Lays, Gives, Counts};
 ghost use Rattle.task_pool.specs.Hand.{hand, all_parts};
 
-use crate::hand::Hand;
 use crate::task::PoolTask;
 use crate::waiting::Waiting;
 use crossbeam_queue::protocol::{Join, Lesson, Outcome, Protocol, Split};
 use crossbeam_queue::{Pass, RuledArrayQueue};
+use std::collections::LinkedList;
 use std::marker::PhantomData;
+
+/// What a pass of the queue knows. No value of it is made: it exists only in contracts.
+pub(crate) struct Hand<T> {
+    /// Its parts of the right to know every pass.
+    pub parts: u64,
+    /// The tasks as they were laid in the queue at first, in the order of their places.
+    pub laid: LinkedList<T>,
+    /// The places that it took and hasn't given back, with the tasks first laid there: those that
+    /// are done, and the one under way.
+    pub kept: LinkedList<(u32, T)>,
+}
 
 /// The rule of the queue: each place either waits or is kept by one pass, once.
 pub(crate) struct Law<T>(PhantomData<T>);

@@ -108,9 +108,9 @@ fn knows_its_names(rt: HostRuntime) {
     }
 }
 
-// A service of the test's own: it answers each end with a text, and doesn't look at its input.
+/// A service of the tests' own: it answers the end with a text, and doesn't look at its input.
 #[derive(Drop)]
-struct Greeting;
+pub(crate) struct Greeting;
 
 impl Service for Greeting {
     ghost use Rattle.service_gate.specs.Triple.{writes};

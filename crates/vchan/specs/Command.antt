@@ -4,8 +4,8 @@ use Rattle.std.specs.Option.{option_map, option_and_then}
 use Rattle.script_words.specs.Numbers.{number_of}
 use Rattle.step_script.specs.Language.Opening.{orders_of}
 use Rattle.service_gate.specs.ServiceResult.{service}
-use Rattle.qrexec_frame.specs.declared.channel.Channel.{Channel}
-use Rattle.qrexec_frame.specs.declared.channel.Channel.TheVariants.{Control, Data}
+use Rattle.qrexec_frame.specs.declared.kind.Channel.{Channel}
+use Rattle.qrexec_frame.specs.declared.kind.Channel.TheVariants.{Control, Data}
 use Rattle.vchan.specs.declared.command.Command.{Command}
 use Rattle.vchan.specs.declared.command.Command.TheVariants.{Step, Decode, Run, Load, Pipe, Persist, Relay}
 

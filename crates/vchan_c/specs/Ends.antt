@@ -9,8 +9,8 @@ use Rattle.vchan_protocol.specs.Table.Ends.{Standing}
 use Rattle.vchan_protocol.specs.Table.Calls.{plan_of, payload_of, loaded_most}
 use Rattle.vchan_core.specs.declared.machine.Machine.{Machine}
 use Rattle.vchan_core.specs.declared.kept.Kept.{Kept}
-use Rattle.vchan_core.specs.declared.refusal.Refusal.{Refusal}
-use Rattle.vchan_core.specs.declared.refusal.Refusal.TheVariants.{Busy, Shut, Unconnected, Connected, NoBytes}
+use Rattle.vchan_core.specs.declared.phase.Refusal.{Refusal}
+use Rattle.vchan_core.specs.declared.phase.Refusal.TheVariants.{Busy, Shut, Unconnected, Connected, NoBytes}
 use Rattle.vchan_core.specs.OneMachine.Phases.{standing, IsIdle, Allows, payload_needed, buffer_needed}
 use Rattle.vchan_core.specs.OneMachine.Refusals.{refusal_of}
 use Rattle.vchan_core.specs.OneMachine.Keeping.{kept_of, IsShort, role_number, state_number}

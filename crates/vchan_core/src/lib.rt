@@ -12,7 +12,6 @@ mod kept;
 mod machine;
 mod phase;
 mod plain;
-mod refusal;
 mod start;
 mod steps;
 mod totals;
@@ -21,8 +20,8 @@ pub mod words;
 
 pub use kept::{AnswerNumbers, Kept, role_of, state_of};
 pub use machine::{Ahead, LastNotify, Machine, Span};
+pub use phase::Refusal;
 pub use plain::Plain;
-pub use refusal::Refusal;
 pub use start::start_words;
 pub use steps::Steps;
 pub use vchan_protocol::{

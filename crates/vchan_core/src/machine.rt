@@ -1,5 +1,4 @@
-use crate::phase::{Next, Phase};
-use crate::refusal::Refusal;
+use crate::phase::{Next, Phase, Refusal};
 use crate::words::{
     ask_word, cons_word, mask, notify_word, own_gone, own_live, own_pending, peer_gone, peer_live,
     peer_pending, prod_word, read_ring, written_ring,

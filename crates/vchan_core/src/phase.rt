@@ -1,3 +1,4 @@
+//! The place of an end inside its call, and why it can begin none.
 use vchan_protocol::{Answer, Bit};
 
 /// The place of an end inside its call.
@@ -66,4 +67,19 @@ impl Phase {
 pub enum Next {
     To(Phase),
     Done(Answer),
+}
+
+/// The reasons why an end can't begin a call now.
+#[derive(Clone, Copy, Debug, PartialEq, Eq)]
+pub enum Refusal {
+    /// The end is inside another call.
+    Busy,
+    /// The end is shut.
+    Shut,
+    /// The client hasn't connected yet.
+    Unconnected,
+    /// The end is connected already.
+    Connected,
+    /// The drain asks for no byte.
+    NoBytes,
 }

@@ -10,7 +10,6 @@
 mod faults;
 mod mem_sink;
 mod mem_source;
-mod memory;
 mod reading;
 mod sink;
 mod source;
@@ -18,10 +17,9 @@ mod std_sink;
 mod std_source;
 mod writing;
 
-pub use faults::Failed;
+pub use faults::{Failed, Memory};
 pub use mem_sink::MemSink;
 pub use mem_source::MemSource;
-pub use memory::Memory;
 pub use reading::{GREATEST_LIMIT, ReadAllError, read_all};
 pub use sink::Sink;
 pub use source::Source;

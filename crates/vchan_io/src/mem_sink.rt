@@ -2,8 +2,7 @@ ghost use Rattle.std.specs.Prelude.{◌≡◌, ◌+◌, ◌≤◌, ◌<◌, ◌�
 ghost use Rattle.vchan_io.specs.Counts.{one_more, IsNextToFail};
 ghost use Rattle.vchan_io.specs.MemSink.{FailsToWrite, taken_count, after_taken, after_failed_write};
 
-use crate::faults::Failed;
-use crate::memory::Memory;
+use crate::faults::{Failed, Memory};
 use crate::sink::Sink;
 use std::alloc::Global;
 use std::marker::Model;

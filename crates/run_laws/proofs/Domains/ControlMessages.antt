@@ -1,7 +1,7 @@
 -- A control page with no fault holds a greeting and then the messages that were heard.
 use Rattle.std.proofs.Common.{◌≡◌, ℕ, List, [], ◌∷◌, refl, ap, sym, inr, None, subst}
 use Rattle.std.specs.Prelude.{true, false, Bool, nat_lt, filter_map}
-use Rattle.qrexec_frame.specs.declared.channel.Channel.TheVariants.{Control}
+use Rattle.qrexec_frame.specs.declared.kind.Channel.TheVariants.{Control}
 use Rattle.qrexec_frame.specs.declared.message.Message.{Message}
 use Rattle.qrexec_frame.specs.declared.message.Message.TheVariants.{Hello}
 use Rattle.qrexec_frame.specs.Grammar.{Fault}

@@ -27,7 +27,7 @@ use Rattle.task_duties.specs.Words.{ident_of}
 use Rattle.task_duties.specs.Hearing.{to_agent, to_broker, IsSaid, hears, hears_on}
 use Rattle.std.proofs.lemmas.List.{append-nil}
 use Rattle.list_laws.proofs.Tests.{same_bytes}
-use Rattle.qrexec_frame.specs.declared.channel.Channel.TheVariants.{Control as OnControl}
+use Rattle.qrexec_frame.specs.declared.kind.Channel.TheVariants.{Control as OnControl}
 use Rattle.qrexec_frame.specs.Grammar.{Fault}
 use Rattle.qrexec_frame.specs.Fronts.{front, reading}
 use Rattle.qrexec_frame.specs.Streams.{Placed, Ending}

@@ -25,7 +25,7 @@ use Rattle.task_duties.specs.Hearing.{to_agent, to_broker, IsSaid, hears}
 use Rattle.std.proofs.lemmas.List.{append-nil}
 use Rattle.list_laws.proofs.Tests.{same_bytes}
 use Rattle.list_laws.specs.Lists.{IsPartOf}
-use Rattle.qrexec_frame.specs.declared.channel.Channel.TheVariants.{Control as OnControl}
+use Rattle.qrexec_frame.specs.declared.kind.Channel.TheVariants.{Control as OnControl}
 use Rattle.qrexec_frame.specs.Fronts.{front, reading}
 use Rattle.qrexec_frame.proofs.StreamLaws.{reads_all}
 use Rattle.qrexec_frame.proofs.GrammarLaws.{is_prefix_code}

@@ -4,8 +4,8 @@ use Rattle.vchan_protocol.specs.declared.call.Call.{Call}
 use Rattle.vchan_protocol.specs.declared.call.Call.TheVariants.{Retire}
 use Rattle.vchan_protocol.specs.declared.call.EndState.{EndState}
 use Rattle.vchan_protocol.specs.declared.call.EndState.TheVariants.{Shut as IsShut}
-use Rattle.vchan_core.specs.declared.refusal.Refusal.{Refusal as CallRefusal}
-use Rattle.vchan_core.specs.declared.refusal.Refusal.TheVariants.{Shut as CallShut, Unconnected as CallUnconnected}
+use Rattle.vchan_core.specs.declared.phase.Refusal.{Refusal as CallRefusal}
+use Rattle.vchan_core.specs.declared.phase.Refusal.TheVariants.{Shut as CallShut, Unconnected as CallUnconnected}
 use Rattle.step_script.specs.declared.player.refusal.Refusal.{Refusal}
 use Rattle.step_script.specs.declared.player.refusal.Refusal.TheVariants.{Idle, Shut, Unconnected}
 

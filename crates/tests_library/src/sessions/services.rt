@@ -1,33 +1,12 @@
 //! Services of a caller's own.
-ghost use Rattle.std.specs.Prelude.{[], codes, negsuc, pos};
+ghost use Rattle.std.specs.Prelude.{[], pos};
 
+use crate::services::Greeting;
 use crate::sessions::sides::{HELLO, answered, bytes_of, serving};
 use service_gate::{Boxed, Service};
 use std::alloc::Global;
 use std::test::Fail;
 use vchan_io::Memory;
-
-/// A service that answers the end with a text, and doesn't look at its input.
-#[derive(Drop)]
-struct Greeting;
-
-impl Service for Greeting {
-    ghost owes = { λ _ _. record { stdout = []; stderr = codes "hi"; code = negsuc 0 } };
-
-    fn feed(
-        &mut self,
-        _piece: &[u8],
-        _out: &mut Vec<u8>,
-        _err: &mut Vec<u8>,
-    ) -> Result<(), Memory> {
-        Ok(())
-    }
-
-    fn end(&mut self, _out: &mut Vec<u8>, err: &mut Vec<u8>) -> Result<i32, Memory> {
-        err.extend_from_slice(b"hi")?;
-        Ok(-1)
-    }
-}
 
 #[test]
 fn serves_with_an_object_of_the_callers(rt: HostRuntime) -> Result<(), Fail> {

@@ -7,8 +7,8 @@ use Rattle.vchan_protocol.specs.declared.call.Call.TheVariants.{Drain, Connect, 
 use Rattle.vchan_protocol.specs.declared.call.EndState.{EndState}
 use Rattle.vchan_protocol.specs.declared.call.EndState.TheVariants.{Fresh, Open, Shut as IsShut}
 use Rattle.vchan_core.specs.declared.machine.Machine.{Machine}
-use Rattle.vchan_core.specs.declared.refusal.Refusal.{Refusal}
-use Rattle.vchan_core.specs.declared.refusal.Refusal.TheVariants.{Busy, Shut, Unconnected, Connected, NoBytes}
+use Rattle.vchan_core.specs.declared.phase.Refusal.{Refusal}
+use Rattle.vchan_core.specs.declared.phase.Refusal.TheVariants.{Busy, Shut, Unconnected, Connected, NoBytes}
 
 -- why an end between two calls may not begin a call in a state
 abbrev pub state_refusal : Role → EndState → Call → Option Refusal

@@ -2,7 +2,7 @@
 use Rattle.std.proofs.Common.{◌≡◌, ◌+◌, ℕ, List, Result, Ok, Err, IfOk, length, sym, subst, ap, arith}
 use denote.Param.Send.{sendable}
 use Rattle.vchan_rule.specs.Seated.{PageStart, PageView}
-use Rattle.vchan_io.specs.declared.memory.Memory.{Memory}
+use Rattle.vchan_io.specs.declared.faults.Memory.{Memory}
 use Rattle.vchan_relay.specs.declared.lay.PageSeats.{PageSeats}
 use Rattle.vchan_relay.specs.declared.task.HopDone.{HopDone}
 use Rattle.vchan_relay.specs.Laying.{AreLaid}

@@ -1,6 +1,6 @@
 use Rattle.std.proofs.Common.{◌≡◌, ◌≤◌, ◌∙◌, ℕ, Bool, true, false, not, List, length, refl, sym, ap, subst, arith}
 use Rattle.std.specs.Prelude.{Result, Ok}
-use Rattle.vchan_io.specs.declared.memory.Memory.{Memory}
+use Rattle.vchan_io.specs.declared.faults.Memory.{Memory}
 use Rattle.vchan_rule.specs.Seated.{view}
 use Rattle.control_port.specs.Port.{PortState}
 use Rattle.broker_task.proofs.LineLaws.{drained_over, drained_going, found_gone, asked_going}

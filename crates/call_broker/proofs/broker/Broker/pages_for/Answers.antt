@@ -1,7 +1,7 @@
 use Rattle.std.proofs.Common.{◌≡◌, ◌<◌, ◌*◌, ◌-◌, ◌+◌, ◌&&◌, true, length, map, ap, ◌∙◌, sym, subst, arith}
 use Rattle.std.specs.Prelude.{nat_le, vec_len}
 use Rattle.std.proofs.lemmas.List.{length-map}
-use Rattle.call_broker.specs.declared.domain.DomainEntry.{DomainEntry}
+use Rattle.call_broker.specs.declared.index.DomainEntry.{DomainEntry}
 use Rattle.call_broker.proofs.AnswerLaws.{page_within}
 use Rattle.call_broker.proofs.broker.Broker.pages_for.Goals as goal
 

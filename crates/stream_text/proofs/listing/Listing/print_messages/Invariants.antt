@@ -1,5 +1,5 @@
 use Rattle.std.proofs.Common.{◌≡◌, ℕ, List, length}
-use Rattle.qrexec_frame.specs.declared.channel.Channel.{Channel}
+use Rattle.qrexec_frame.specs.declared.kind.Channel.{Channel}
 use Rattle.stream_text.specs.Listings.{Lists}
 use Rattle.stream_text.proofs.listing.Listing.print_messages.Given as goal
 
