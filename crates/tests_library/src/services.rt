@@ -113,8 +113,6 @@ fn knows_its_names(rt: HostRuntime) {
 pub(crate) struct Greeting;
 
 impl Service for Greeting {
-    ghost use Rattle.service_gate.specs.Triple.{writes};
-
     ghost owes = { λ _ _. record { stdout = []; stderr = codes "hi"; code = negsuc 0 } };
 
     fn feed(
