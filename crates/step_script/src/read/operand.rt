@@ -6,7 +6,7 @@ ghost use Rattle.step_script.specs.Language.Operands.{given, operand_of, alone, 
 ghost use Rattle.step_script.specs.Parts.Readings.{Finds, Gives};
 
 use crate::error::{LineError, ScriptKind};
-use script_words::{WordsOfLine, parse_number, push_bytes};
+use script_words::{WordsOfLine, parse_number, push_bytes_of};
 
 /// The greatest value that a count of bytes or of events may have.
 const MOST_COUNT: u32 = 2_147_483_647;
@@ -105,7 +105,7 @@ pub(crate) fn read_payload(
     ensures bytes { IfOk result (λ count. AreBytes payload.new.items) }
 {
     let word = read_operand(words)?;
-    push_bytes(payload, word, room)?;
+    push_bytes_of(payload, word, room)?;
     Ok(count_bytes(payload.as_slice()))
 }
 
