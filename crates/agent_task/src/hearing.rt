@@ -33,7 +33,7 @@ impl<'p> Agent<'p> {
         self.greet()?;
         let drained = self.drain(scratch)?;
         self.hear_all()?;
-        self.settle(drained);
+        self.end_channel(drained);
         Ok(())
     }
 
@@ -105,7 +105,7 @@ impl<'p> Agent<'p> {
     }
 
     // Retires the end of a channel that is over: something wrong was heard, or the drain found the end.
-    fn settle(&mut self, drained: DrainAnswer)
+    fn end_channel(&mut self, drained: DrainAnswer)
         requires out { HasHeardOut self.old }
         requires drained { IsDrained drained self.old }
         ensures running { IsRunning self.new }

@@ -25,7 +25,7 @@ use Rattle.call_broker.proofs.TabledLaws.{tabled_more}
 use Rattle.call_broker.specs.Brokered.{Brokered}
 use Rattle.call_broker.specs.Inside.{hub_of, brokered, IsKept}
 use Rattle.call_broker.specs.Journal.{events, drops, IsDecidedOn, IsNumbered}
-use Rattle.call_broker.specs.Tables.{calls_at, live_of, HasRoom, IsSettled, IsTabled, IsIndex}
+use Rattle.call_broker.specs.Tables.{calls_at, live_of, HasRoom, IsEntered, IsTabled, IsIndex}
 
 -- its tables are those of what is seen
 pub tabled_now : (inside : Inside) (now : Brokered) → brokered inside ≡ now → IsKept inside → IsTabled now.hub (events now.journal) inside.calls inside.dropped
@@ -82,7 +82,7 @@ events_push (y ∷ journal) x = ap (λ r. y.event ∷ r) (events_push journal x)
 -- a broker is kept well with one more entry, once its tables are settled
 pub kept_more : (inside after : Inside) (e : Event) (d : Decision) → IsKept inside → hub_of after ≡ hub_of inside → after.index ≡ inside.index
     → after.journal.items ≡ inside.journal.items ++ record { event = e; decision = d } ∷ []
-    → IsNumbered (hub_of inside) e → d ≡ decision (hub_of inside) (events inside.journal.items) e → IsSettled e d inside.calls inside.dropped after.calls after.dropped → IsKept after
+    → IsNumbered (hub_of inside) e → d ≡ decision (hub_of inside) (events inside.journal.items) e → IsEntered e d inside.calls inside.dropped after.calls after.dropped → IsKept after
 kept_more inside after e d kept same index pushed numbered is settled = record {
   few = subst (λ (hub : Domains). count_of hub ≤ 32) (sym same) kept.few;
   square = ap length pages ∙ kept.square ∙ sym (ap (λ (hub : Domains). count_of hub * count_of hub) same);

@@ -17,7 +17,7 @@ use Rattle.call_broker.specs.Domains.{Domains, is_domain, target_of}
 use Rattle.call_broker.specs.Pair.{Pair, Ordered, Alone, PairState, is_pair, is_of, pair_of, decides, settles, state_after, decision}
 use Rattle.call_broker.specs.Journal.{drops, IsNumbered}
 use Rattle.qrexec_frame.specs.Names.{cleaned_target}
-use Rattle.call_broker.specs.Tables.{pair_cmp, calls_at, live_of, number_of, is_same, AddsCall, EndsCall, SameCalls, SameDropped, AddsDropped, IsSettled, IsTabled}
+use Rattle.call_broker.specs.Tables.{pair_cmp, calls_at, live_of, number_of, is_same, AddsCall, EndsCall, SameCalls, SameDropped, AddsDropped, IsEntered, IsTabled}
 use Rattle.call_broker.proofs.PortLaws.{state_after_lem}
 use Rattle.call_broker.proofs.DroppedLaws.{dropped_is, dropped_more}
 use Rattle.call_broker.proofs.OpenLaws.{IsTaken, domain_found, trigger_ends_none, terminated_takes_none, taken_view, taken_pair, ended_pair}
@@ -239,7 +239,7 @@ went hub es domain calls calls' dropped dropped' same_calls adds was = record {
 
 -- the tables stand for one more event of a domain once they are settled by its decision
 pub tabled_more : (hub : Domains) (es : List Event) (e : Event) (d : Decision) (calls calls' : BTreeMap (ℕ × ℕ) Calls) (dropped dropped' : BTreeSet ℕ)
-    → IsNumbered hub e → d ≡ decision hub es e → IsSettled e d calls dropped calls' dropped' → IsTabled hub es calls dropped → IsTabled hub (es ++ e ∷ []) calls' dropped'
+    → IsNumbered hub e → d ≡ decision hub es e → IsEntered e d calls dropped calls' dropped' → IsTabled hub es calls dropped → IsTabled hub (es ++ e ∷ []) calls' dropped'
 tabled_more hub es (Trigger from target service ident) (Accepted to port) calls calls' dropped dropped' numbered is settled was =
     let named = (taken_view hub es from target service ident to port (sym is)).named in
     let domains : (is_domain hub from && is_domain hub to) ≡ true = rw (numbered, domain_found hub (cleaned_target target) to named) refl in

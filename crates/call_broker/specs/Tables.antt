@@ -65,11 +65,11 @@ abbrev pub AddsDropped : BTreeSet ℕ → BTreeSet ℕ → ℕ → Type 0
 AddsDropped old new domain = (d : ℕ) → set.contains nat_cmp new d ≡ (domain == d || set.contains nat_cmp old d)
 
 -- the effect of an event on the tables, by the decision on it
-abbrev pub IsSettled : Event → Decision → BTreeMap (ℕ × ℕ) Calls → BTreeSet ℕ → BTreeMap (ℕ × ℕ) Calls → BTreeSet ℕ → Type 0
-IsSettled (Trigger from target service ident) (Accepted to port) calls dropped calls' dropped' = AddsCall calls calls' from to port × SameDropped dropped dropped'
-IsSettled (Terminated sender other named) (Ended from to port) calls dropped calls' dropped' = EndsCall calls calls' from to port × SameDropped dropped dropped'
-IsSettled (Dropped domain) decision calls dropped calls' dropped' = SameCalls calls calls' × AddsDropped dropped dropped' domain
-IsSettled event decision calls dropped calls' dropped' = SameCalls calls calls' × SameDropped dropped dropped'
+abbrev pub IsEntered : Event → Decision → BTreeMap (ℕ × ℕ) Calls → BTreeSet ℕ → BTreeMap (ℕ × ℕ) Calls → BTreeSet ℕ → Type 0
+IsEntered (Trigger from target service ident) (Accepted to port) calls dropped calls' dropped' = AddsCall calls calls' from to port × SameDropped dropped dropped'
+IsEntered (Terminated sender other named) (Ended from to port) calls dropped calls' dropped' = EndsCall calls calls' from to port × SameDropped dropped dropped'
+IsEntered (Dropped domain) decision calls dropped calls' dropped' = SameCalls calls calls' × AddsDropped dropped dropped' domain
+IsEntered event decision calls dropped calls' dropped' = SameCalls calls calls' × SameDropped dropped dropped'
 
 -- the tables are those of a broker after some events. A call of a dropped domain stays in the table, but doesn't count.
 pub record IsTabled (hub : Domains) (after : List Event) (calls : BTreeMap (ℕ × ℕ) Calls) (dropped : BTreeSet ℕ) : Type 0 where

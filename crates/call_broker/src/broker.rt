@@ -7,10 +7,10 @@ ghost use Rattle.std.specs.List.{list_any};
 
 use crate::calls::{MOST_LIVE, MOST_PAGES};
 use crate::decision::{Cause, Decision, Entry};
+use crate::entering::{append, enter};
 use crate::event::Event;
 use crate::index::{self, DomainEntry, Index};
 use crate::ports::{pair_by_port, port_after};
-use crate::settle::{append, settle};
 use crate::table::{self, Table};
 use qrexec_frame::{Text, clean_service, clean_target};
 use service_gate::Builtin;
@@ -82,7 +82,7 @@ impl Broker {
     {
         let decision = self.decide(&event)?;
         self.journal.reserve(1)?;
-        settle(&mut self.calls, &mut self.dropped, &event, decision)?;
+        enter(&mut self.calls, &mut self.dropped, &event, decision)?;
         append(&mut self.journal, Entry { event, decision });
         Ok(decision)
     }

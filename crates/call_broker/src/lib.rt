@@ -9,11 +9,11 @@
 mod broker;
 mod calls;
 mod decision;
+mod entering;
 mod event;
 mod index;
 pub mod laws;
 mod ports;
-mod settle;
 mod table;
 
 pub use broker::Broker;

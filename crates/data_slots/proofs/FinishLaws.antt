@@ -16,8 +16,8 @@ use Rattle.data_slots.specs.declared.slot.Slot.{Slot}
 use Rattle.data_slots.specs.declared.done.CallOver.{CallOver}
 use Rattle.data_slots.specs.declared.note.CallNote.{CallNote}
 use Rattle.data_slots.specs.declared.note.ServedNote.{ServedNote}
-use Rattle.data_slots.specs.declared.report.Report.{Report}
-use Rattle.data_slots.specs.declared.report.Report.TheVariants.{Nothing, Call, Serving}
+use Rattle.data_slots.specs.declared.done.SessionDone.{SessionDone}
+use Rattle.data_slots.specs.declared.done.SessionDone.TheVariants.{Nothing, Call, Serving}
 use Rattle.data_slots.specs.Slots.{Held, held_at}
 use Rattle.data_slots.specs.Done.{AreBack, ReportsCalled, ReportsServes}
 use Rattle.data_slots.specs.Reports.{call_in, served_in}
@@ -65,30 +65,30 @@ pub retired_back : (first : EndAt) (slots : List Slot) (retired : List EndAt) �
 retired_back first slots retired h = all_back first slots h.done retired h.are h.retires
 
 -- what is reported of the rest is reported of all
-abbrev ReportsOn : ℕ → List Slot → List Slot → List EndAt → List Report → Type 0
+abbrev ReportsOn : ℕ → List Slot → List Slot → List EndAt → List SessionDone → Type 0
 ReportsOn version slots rest done reports =
-    (ends : List EndAt) (more : List Report) → AreReported version (frames rest) ends more → AreReported version (frames slots) (done ++ ends) (reports ++ more)
+    (ends : List EndAt) (more : List SessionDone) → AreReported version (frames rest) ends more → AreReported version (frames slots) (done ++ ends) (reports ++ more)
 
-report_more : (version : ℕ) (slots rest : List Slot) (slot : Slot) (done : List EndAt) (reports : List Report) (e : EndAt) (r : Report) → held_at e ≡ (frame_of slot).held
+report_more : (version : ℕ) (slots rest : List Slot) (slot : Slot) (done : List EndAt) (reports : List SessionDone) (e : EndAt) (r : SessionDone) → held_at e ≡ (frame_of slot).held
     → IsReportOf version (place_of slot) (use_of slot.stage) e.view r → ReportsOn version slots (slot ∷ rest) done reports → ReportsOn version slots rest (done ++ e ∷ []) (reports ++ r ∷ [])
 report_more version slots rest slot done reports e r held is h ends more rest_is =
     let one = h (e ∷ ends) (r ∷ more) (held, is, rest_is) in
     subst (λ es. AreReported version (frames slots) es ((reports ++ r ∷ []) ++ more)) (sym (append_assoc done (e ∷ []) ends))
     (subst (λ rs. AreReported version (frames slots) (done ++ e ∷ ends) rs) (sym (append_assoc reports (r ∷ []) more)) one)
 
-report_all : (version : ℕ) (slots : List Slot) (done : List EndAt) (reports : List Report) → ReportsOn version slots [] done reports → AreReported version (frames slots) done reports
+report_all : (version : ℕ) (slots : List Slot) (done : List EndAt) (reports : List SessionDone) → ReportsOn version slots [] done reports → AreReported version (frames slots) done reports
 report_all version slots done reports h =
     subst (λ es. AreReported version (frames slots) es reports) (append-nil done) (subst (λ rs. AreReported version (frames slots) (done ++ []) rs) (append-nil reports) (h [] [] tt))
 
 -- some are retired and reported, and the rest has no open session
-pub record AreReporting (first : EndAt) (slots rest : List Slot) (retired : List EndAt) (reports : List Report) : Type 0 where
+pub record AreReporting (first : EndAt) (slots rest : List Slot) (retired : List EndAt) (reports : List SessionDone) : Type 0 where
   pub done : List EndAt
   pub are : retired ≡ first ∷ done
   pub retires : Retires slots rest done
   pub closed : Each (λ s. is_session s.stage ≡ false) rest
   pub reported : (version : ℕ) → Each (λ s. IsStage version s.stage) slots → Each (λ s. IsStage version s.stage) rest × ReportsOn version slots rest done reports
 
-pub one_reported : (first : EndAt) (slots rest : List Slot) (slot : Slot) (retired : List EndAt) (reports : List Report) (e : EndAt) (r : Report) → held_at e ≡ (frame_of slot).held → e.view.turned ≡ false
+pub one_reported : (first : EndAt) (slots rest : List Slot) (slot : Slot) (retired : List EndAt) (reports : List SessionDone) (e : EndAt) (r : SessionDone) → held_at e ≡ (frame_of slot).held → e.view.turned ≡ false
     → ((version : ℕ) → IsStage version slot.stage → IsReportOf version (place_of slot) (use_of slot.stage) e.view r)
     → AreReporting first slots (slot ∷ rest) retired reports → AreReporting first slots rest (retired ++ e ∷ []) (reports ++ r ∷ [])
 one_reported first slots rest slot retired reports e r held honest is h = record {
@@ -99,7 +99,7 @@ one_reported first slots rest slot retired reports e r held honest is h = record
   reported = λ version each. (let known = h.reported version each in (known.0.1, report_more version slots rest slot h.done reports e r held (is version known.0.0) known.1));
 }
 
-pub all_reported : (first : EndAt) (slots : List Slot) (retired : List EndAt) (reports : List Report) → AreReporting first slots [] retired reports → AreFinished first slots retired reports
+pub all_reported : (first : EndAt) (slots : List Slot) (retired : List EndAt) (reports : List SessionDone) → AreReporting first slots [] retired reports → AreFinished first slots retired reports
 unfolding all_back
 all_reported first slots retired reports h = record {
   back = all_back first slots h.done retired h.are h.retires;
@@ -113,15 +113,15 @@ retired_more retired new x is = ap all_retired is ∙ map-append retired_at reti
 -- ---- reports by their numbers
 
 -- what is reported of the end with this number
-record At (version : ℕ) (place : PagePlace) (used : Use) (at : ℕ) (ends : List EndAt) (reports : List Report) : Type 0 where
+record At (version : ℕ) (place : PagePlace) (used : Use) (at : ℕ) (ends : List EndAt) (reports : List SessionDone) : Type 0 where
   pub end : EndAt
-  pub report : Report
+  pub report : SessionDone
   pub end_is : slice_get ends at ≡ Some end
   pub lies : end.place ≡ place
   pub report_is : slice_get reports at ≡ Some report
   pub is : IsReportOf version place used end.view report
 
-reported_at : (version : ℕ) (fs : List Frame) (ends : List EndAt) (reports : List Report) (at : ℕ) (here : Frame) → AreReported version fs ends reports
+reported_at : (version : ℕ) (fs : List Frame) (ends : List EndAt) (reports : List SessionDone) (at : ℕ) (here : Frame) → AreReported version fs ends reports
     → slice_get fs at ≡ Some here → At version here.held.place here.used at ends reports
 reported_at version [] ends reports at here h is = cc
 reported_at version (f ∷ fs) [] reports at here h is = absurd h
@@ -140,29 +140,29 @@ reported_at version (f ∷ fs) (e ∷ ends) (r ∷ reports) (suc at) here h is =
     let a = reported_at version fs ends reports at here h.2 is in
     record { end = a.end; report = a.report; end_is = a.end_is; lies = a.lies; report_is = a.report_is; is = a.is }
 
-used_at : (version : ℕ) (fs : List Frame) (ends : List EndAt) (reports : List Report) (at : ℕ) (place : PagePlace) (used : Use) → AreReported version fs ends reports → IsUsedAt fs at place used
+used_at : (version : ℕ) (fs : List Frame) (ends : List EndAt) (reports : List SessionDone) (at : ℕ) (place : PagePlace) (used : Use) → AreReported version fs ends reports → IsUsedAt fs at place used
     → At version place used at ends reports
 used_at version fs ends reports at place used h u = subst (λ p. At version p used at ends reports) u.lies (reported_at version fs ends reports at (record { held = u.held; used = used; late = u.late }) h u.is)
 
-call_report : (version from to port number : ℕ) (input : List ℕ) (end : EndView) (r : Report) → IsReportOf version (Payload from to port) (ForCall number input) end r → (over : CallOver) × (r ≡ Call number over)
+call_report : (version from to port number : ℕ) (input : List ℕ) (end : EndView) (r : SessionDone) → IsReportOf version (Payload from to port) (ForCall number input) end r → (over : CallOver) × (r ≡ Call number over)
 call_report version from to port number input end (Call n over) h = (over, ap (λ k. Call k over) h.0)
 call_report version from to port number input end (Serving n done) h = absurd h
 call_report version from to port number input end Nothing h = absurd h
 
-serving_report : (version from to port number : ℕ) (service : Builtin) (end : EndView) (r : Report) → IsReportOf version (Payload from to port) (ForServing number service) end r
+serving_report : (version from to port number : ℕ) (service : Builtin) (end : EndView) (r : SessionDone) → IsReportOf version (Payload from to port) (ForServing number service) end r
     → (done : ServedDone) × (r ≡ Serving number done)
 serving_report version from to port number service end (Serving n done) h = (done, ap (λ k. Serving k done) h.0)
 serving_report version from to port number service end (Call n over) h = absurd h
 serving_report version from to port number service end Nothing h = absurd h
 
-pub are_calls : (version domain : ℕ) (fs : List Frame) (ends : List EndAt) (reports : List Report) (calls : List (Option CallNote)) (served : List ServedNote) → AreReported version fs ends reports
+pub are_calls : (version domain : ℕ) (fs : List Frame) (ends : List EndAt) (reports : List SessionDone) (calls : List (Option CallNote)) (served : List ServedNote) → AreReported version fs ends reports
     → HaveEnds domain fs calls served → AreCalls reports calls
 are_calls version domain fs ends reports calls served h have number n is =
     let a = used_at version fs ends reports n.at (Payload domain n.to n.port) (ForCall number n.input.value.items) h (have.called number n is) in
     let r = call_report version domain n.to n.port number n.input.value.items a.end.view a.report a.is in
     (r.0, a.report_is ∙ ap Some r.1)
 
-pub are_servings : (version domain : ℕ) (fs : List Frame) (ends : List EndAt) (reports : List Report) (calls : List (Option CallNote)) (served : List ServedNote) → AreReported version fs ends reports
+pub are_servings : (version domain : ℕ) (fs : List Frame) (ends : List EndAt) (reports : List SessionDone) (calls : List (Option CallNote)) (served : List ServedNote) → AreReported version fs ends reports
     → HaveEnds domain fs calls served → AreServings reports served
 are_servings version domain fs ends reports calls served h have number n is =
     let a = used_at version fs ends reports n.at (Payload n.from domain n.port) (ForServing number n.service.value) h (have.serving number n is) in
@@ -175,11 +175,11 @@ pairs : {A B C : Type 0} (R : B → C → Type 0) (f : A → B) (g : A → C) (x
 pairs R f g [] h = tt
 pairs R f g (x ∷ xs) h = (h 0 x refl, pairs R f g xs (λ m. h (suc m)))
 
-pub reports_called : (version domain : ℕ) (fs : List Frame) (first : EndAt) (ends : List EndAt) (reports : List Report) (calls : List (Option CallNote)) (served : List ServedNote) → AreReported version fs ends reports
+pub reports_called : (version domain : ℕ) (fs : List Frame) (first : EndAt) (ends : List EndAt) (reports : List SessionDone) (calls : List (Option CallNote)) (served : List ServedNote) → AreReported version fs ends reports
     → HaveEnds domain fs calls served → EachPair (ReportsCalled domain version (first ∷ ends)) (map (option_map called_of) calls) (map (call_at reports) calls)
 reports_called version domain fs first ends reports calls served h have = pairs (ReportsCalled domain version (first ∷ ends)) (option_map called_of) (call_at reports) calls each
   where
-    reports_of : (number : ℕ) (n : CallNote) (end : EndAt) (r : Report) → slice_get ends n.at ≡ Some end → end.place ≡ Payload domain n.to n.port
+    reports_of : (number : ℕ) (n : CallNote) (end : EndAt) (r : SessionDone) → slice_get ends n.at ≡ Some end → end.place ≡ Payload domain n.to n.port
         → IsReportOf version (Payload domain n.to n.port) (ForCall number n.input.value.items) end.view r → ReportsCalled domain version (first ∷ ends) (Some (called_of n)) (call_in r)
     reports_of number n end (Call k over) here lies is = (is.1, is.2, inr (some_get _ ends n.at end here (lies, is.3)))
     reports_of number n end (Serving k done) here lies is = absurd is
@@ -205,11 +205,11 @@ some_pairs {A} {B} {C} R f g (x ∷ xs) (y ∷ ys) same h =
     let more : map Some ys ≡ map g xs = cc in
     (subst (λ (z : C). R (f x) z) e a.2, some_pairs R f g xs ys more (λ m. h (suc m)))
 
-pub reports_serves : (version domain : ℕ) (fs : List Frame) (first : EndAt) (ends : List EndAt) (reports : List Report) (calls : List (Option CallNote)) (served : List ServedNote) (done : List ServedDone)
+pub reports_serves : (version domain : ℕ) (fs : List Frame) (first : EndAt) (ends : List EndAt) (reports : List SessionDone) (calls : List (Option CallNote)) (served : List ServedNote) (done : List ServedDone)
     → AreReported version fs ends reports → HaveEnds domain fs calls served → map Some done ≡ map (served_at reports) served → EachPair (ReportsServes domain version (first ∷ ends)) (map serves_of served) done
 reports_serves version domain fs first ends reports calls served done h have same = some_pairs (ReportsServes domain version (first ∷ ends)) serves_of (served_at reports) served done same each
   where
-    reports_of : (m : ℕ) (n : ServedNote) (end : EndAt) (r : Report) → slice_get ends n.at ≡ Some end → end.place ≡ Payload n.from domain n.port → slice_get reports n.at ≡ Some r
+    reports_of : (m : ℕ) (n : ServedNote) (end : EndAt) (r : SessionDone) → slice_get ends n.at ≡ Some end → end.place ≡ Payload n.from domain n.port → slice_get reports n.at ≡ Some r
         → IsReportOf version (Payload n.from domain n.port) (ForServing m n.service.value) end.view r → (d : ServedDone) × (served_at reports n ≡ Some d) × ReportsServes domain version (first ∷ ends) (serves_of n) d
     reports_of m n end (Serving k d) here lies at is = (d, ap (option_and_then served_in) at, (is.1, is.2, inr (some_get _ ends n.at end here (lies, is.3))))
     reports_of m n end (Call k over) here lies at is = absurd is
@@ -225,7 +225,7 @@ reports_serves version domain fs first ends reports calls served done h have sam
 call_number : (a b : CallOver) (m k : ℕ) → Call m a ≡ Call k b → m ≡ k
 call_number a b m k e = cc
 
-pub later_calls : (first now next : List Report) (calls : List (Option CallNote)) (k : ℕ) (o : Option CallNote) → AreCalls first calls → slice_get calls k ≡ Some o
+pub later_calls : (first now next : List SessionDone) (calls : List (Option CallNote)) (k : ℕ) (o : Option CallNote) → AreCalls first calls → slice_get calls k ≡ Some o
     → ((m : ℕ) (n : CallNote) → k ≤ m → slice_get calls m ≡ Some (Some n) → slice_get now n.at ≡ slice_get first n.at) → KeepsOthers o now next
     → (m : ℕ) (n : CallNote) → k + 1 ≤ m → slice_get calls m ≡ Some (Some n) → slice_get next n.at ≡ slice_get first n.at
 later_calls first now next calls k o are here later keeps m n less is = keeps n.at (elsewhere o here) ∙ later m n (omega (arith, less)) is
@@ -240,34 +240,34 @@ later_calls first now next calls k o are here later keeps m n less is = keeps n.
         let e'' : m ≡ k = call_number a.0 b.0 m k e' in
         omega (arith, less, e'')
 
-pub other_servings : (first now next : List Report) (calls : List (Option CallNote)) (k : ℕ) (o : Option CallNote) → AreCalls first calls → slice_get calls k ≡ Some o → KeepsServings first now → KeepsOthers o now next
+pub other_servings : (first now next : List SessionDone) (calls : List (Option CallNote)) (k : ℕ) (o : Option CallNote) → AreCalls first calls → slice_get calls k ≡ Some o → KeepsServings first now → KeepsOthers o now next
     → KeepsServings first next
 other_servings first now next calls k o are here kept keeps at number done is = keeps at (elsewhere o here) ∙ kept at number done is
   where
-    bad : (m n : ℕ) (a : CallOver) (d : ServedDone) → ◌≡◌ {A = Option Report} (Some (Call m a)) (Some (Serving n d)) → ⊥
+    bad : (m n : ℕ) (a : CallOver) (d : ServedDone) → ◌≡◌ {A = Option SessionDone} (Some (Call m a)) (Some (Serving n d)) → ⊥
     bad m n a d e = cc
 
     elsewhere : (o : Option CallNote) → slice_get calls k ≡ Some o → IsElsewhere o at
     elsewhere None here = tt
     elsewhere (Some q) here = λ same. let b = are k q here in bad k number b.0 done (sym b.1 ∙ (ap (slice_get first) (sym same) ∙ is))
 
-pub same_call : (first now : List Report) (calls : List (Option CallNote)) (k : ℕ) (o : Option CallNote) → slice_get calls k ≡ Some o
+pub same_call : (first now : List SessionDone) (calls : List (Option CallNote)) (k : ℕ) (o : Option CallNote) → slice_get calls k ≡ Some o
     → ((m : ℕ) (n : CallNote) → k ≤ m → slice_get calls m ≡ Some (Some n) → slice_get now n.at ≡ slice_get first n.at) → call_at now o ≡ call_at first o
 same_call first now calls k None here later = refl
 same_call first now calls k (Some q) here later = ap (option_and_then call_in) (later k q (omega arith) here)
 
-pub has_call : (first now : List Report) (calls : List (Option CallNote)) (k : ℕ) (o : Option CallNote) → AreCalls first calls → slice_get calls k ≡ Some o
+pub has_call : (first now : List SessionDone) (calls : List (Option CallNote)) (k : ℕ) (o : Option CallNote) → AreCalls first calls → slice_get calls k ≡ Some o
     → ((m : ℕ) (n : CallNote) → k ≤ m → slice_get calls m ≡ Some (Some n) → slice_get now n.at ≡ slice_get first n.at) → HasCall now o
 has_call first now calls k None are here later = tt
 has_call first now calls k (Some q) are here later =
     let a = are k q here in
     let e = later k q (omega arith) here ∙ a.1 in
-    subst (λ (x : Option Report). IsSome (option_and_then call_in x)) (sym e) refl
+    subst (λ (x : Option SessionDone). IsSome (option_and_then call_in x)) (sym e) refl
 
 serving_number : (a b : ServedDone) (m k : ℕ) → Serving m a ≡ Serving k b → m ≡ k
 serving_number a b m k e = cc
 
-pub later_servings : (first now next : List Report) (served : List ServedNote) (k : ℕ) (q : ServedNote) → AreServings first served → slice_get served k ≡ Some q
+pub later_servings : (first now next : List SessionDone) (served : List ServedNote) (k : ℕ) (q : ServedNote) → AreServings first served → slice_get served k ≡ Some q
     → ((m : ℕ) (n : ServedNote) → k ≤ m → slice_get served m ≡ Some n → slice_get now n.at ≡ slice_get first n.at) → ((at : ℕ) → at ≢ q.at → slice_get next at ≡ slice_get now at)
     → (m : ℕ) (n : ServedNote) → k + 1 ≤ m → slice_get served m ≡ Some n → slice_get next n.at ≡ slice_get first n.at
 later_servings first now next served k q are here later keeps m n less is = keeps n.at apart ∙ later m n (omega (arith, less)) is
@@ -281,18 +281,18 @@ later_servings first now next served k q are here later keeps m n less is = keep
         let e'' : m ≡ k = serving_number a.0 b.0 m k e' in
         omega (arith, less, e'')
 
-pub same_serving : (first now : List Report) (served : List ServedNote) (k : ℕ) (q : ServedNote) → slice_get served k ≡ Some q
+pub same_serving : (first now : List SessionDone) (served : List ServedNote) (k : ℕ) (q : ServedNote) → slice_get served k ≡ Some q
     → ((m : ℕ) (n : ServedNote) → k ≤ m → slice_get served m ≡ Some n → slice_get now n.at ≡ slice_get first n.at) → served_at now q ≡ served_at first q
 same_serving first now served k q here later = ap (option_and_then served_in) (later k q (omega arith) here)
 
-pub has_serving : (first now : List Report) (served : List ServedNote) (k : ℕ) (q : ServedNote) → AreServings first served → slice_get served k ≡ Some q
+pub has_serving : (first now : List SessionDone) (served : List ServedNote) (k : ℕ) (q : ServedNote) → AreServings first served → slice_get served k ≡ Some q
     → ((m : ℕ) (n : ServedNote) → k ≤ m → slice_get served m ≡ Some n → slice_get now n.at ≡ slice_get first n.at) → IsSome (served_at now q)
 has_serving first now served k q are here later =
     let a = are k q here in
     let e = later k q (omega arith) here ∙ a.1 in
-    subst (λ (x : Option Report). IsSome (option_and_then served_in x)) (sym e) refl
+    subst (λ (x : Option SessionDone). IsSome (option_and_then served_in x)) (sym e) refl
 
-pub served_same : (old new : List Report) (served : List ServedNote) → KeepsServings old new → AreServings old served → map (served_at new) served ≡ map (served_at old) served
+pub served_same : (old new : List SessionDone) (served : List ServedNote) → KeepsServings old new → AreServings old served → map (served_at new) served ≡ map (served_at old) served
 served_same old new served keeps are = mapped served (λ m n is. same n (are m n is))
   where
     same : (n : ServedNote) → {number : ℕ} → (done : ServedDone) × (slice_get old n.at ≡ Some (Serving number done)) → served_at new n ≡ served_at old n

@@ -18,8 +18,8 @@ use Rattle.channel_session.proofs.KeepingLaws.{keeps_all, keeps_then, retired_ke
 use Rattle.task_duties.specs.declared.ends.DataEnd.{DataEnd}
 use Rattle.task_duties.specs.declared.ends.DoneEnd.{DoneEnd}
 use Rattle.task_duties.specs.GivenEnds.{done_view}
-use Rattle.data_slots.specs.declared.side.Side.{Side}
-use Rattle.data_slots.specs.declared.side.Side.TheVariants as side
+use Rattle.data_slots.specs.declared.side.PageSide.{PageSide}
+use Rattle.data_slots.specs.declared.side.PageSide.TheVariants as side
 use Rattle.data_slots.specs.declared.slot.Slot.{Slot}
 use Rattle.data_slots.specs.declared.stage.Stage.{Stage}
 use Rattle.data_slots.specs.declared.stage.Stage.TheVariants.{Unused, Calls, Awaits, Serves, CallIsOver, ServingIsOver, Taken}
@@ -119,21 +119,21 @@ pub serving_keeps_on : (old : Session) (before now : ServingAt) → Begins old (
 serving_keeps_on old before now began keeps = loses_then old (ServesWith before) (ServesWith now) (begins_keeps old (ServesWith before) began) (record { got = keeps.got; sent = keeps.sent })
 
 -- an end has the same bytes under its page's name
-seen_keeps : (s : Side) (end : EndView) → KeepsBytes end (seen_under s end)
+seen_keeps : (s : PageSide) (end : EndView) → KeepsBytes end (seen_under s end)
 seen_keeps side.Laid end = keeps_all end
 seen_keeps (side.Server s) end = record { got = not_less (length end.got); sent = not_less (length end.sent) }
 seen_keeps (side.Client c) end = record { got = not_less (length end.got); sent = not_less (length end.sent) }
 
-done_keeps : (s : Side) (before last : EndView) (end : DoneEnd) → IsRetired before last → done_view end ≡ seen_under s last → KeepsBytes before (done_view end)
+done_keeps : (s : PageSide) (before last : EndView) (end : DoneEnd) → IsRetired before last → done_view end ≡ seen_under s last → KeepsBytes before (done_view end)
 done_keeps s before last end retired seen =
     subst (λ (e : EndView). KeepsBytes before e) (sym seen) (keeps_then before last (seen_under s last) (retired_keeps before last retired) (seen_keeps s last))
 
 -- a session that is over came to its end
-pub call_ends : (at : CallerAt) (s : Side) (last : EndView) (end : DoneEnd) → IsRetired (view at.end) last → done_view end ≡ seen_under s last → ComesToItsEnd (CallsWith at) (EndedWith (done_view end))
+pub call_ends : (at : CallerAt) (s : PageSide) (last : EndView) (end : DoneEnd) → IsRetired (view at.end) last → done_view end ≡ seen_under s last → ComesToItsEnd (CallsWith at) (EndedWith (done_view end))
 call_ends at s last end retired seen =
     let keeps = done_keeps s (view at.end) last end retired seen in record { end = done_view end; was_open = refl; is = refl; keeps = record { got = keeps.got; sent = keeps.sent } }
 
-pub serving_ends : (at : ServingAt) (s : Side) (last : EndView) (end : DoneEnd) → IsRetired (view at.end) last → done_view end ≡ seen_under s last → ComesToItsEnd (ServesWith at) (EndedWith (done_view end))
+pub serving_ends : (at : ServingAt) (s : PageSide) (last : EndView) (end : DoneEnd) → IsRetired (view at.end) last → done_view end ≡ seen_under s last → ComesToItsEnd (ServesWith at) (EndedWith (done_view end))
 serving_ends at s last end retired seen =
     let keeps = done_keeps s (view at.end) last end retired seen in record { end = done_view end; was_open = refl; is = refl; keeps = record { got = keeps.got; sent = keeps.sent } }
 

@@ -19,13 +19,13 @@ use Rattle.data_slots.specs.Stages.{IsStage}
 use Rattle.data_slots.specs.declared.results.ServingResult.{ServingResult}
 use Rattle.task_duties.specs.declared.ends.DoneEnd.{DoneEnd}
 use Rattle.task_duties.specs.GivenEnds.{done_view}
-use Rattle.data_slots.specs.declared.side.Side.{Side}
-use Rattle.data_slots.specs.declared.side.Side.TheVariants as side
+use Rattle.data_slots.specs.declared.side.PageSide.{PageSide}
+use Rattle.data_slots.specs.declared.side.PageSide.TheVariants as side
 use Rattle.data_slots.specs.Slots.{held_of}
 use Rattle.data_slots.specs.Sides.{seen_under}
 
 -- an end that is the same one as before is held as the same one
-pub same_held : (s : Side) (place : PagePlace) (before now : EndView) → now.page ≡ before.page → now.role ≡ before.role → held_of place (seen_under s now) ≡ held_of place (seen_under s before)
+pub same_held : (s : PageSide) (place : PagePlace) (before now : EndView) → now.page ≡ before.page → now.role ≡ before.role → held_of place (seen_under s now) ≡ held_of place (seen_under s before)
 same_held side.Laid place before now page role = λ i. record { place = place; page = page i; role = role i }
 same_held (side.Server s) place before now page role = λ i. record { place = place; page = s.name; role = role i }
 same_held (side.Client c) place before now page role = λ i. record { place = place; page = c.name; role = role i }
@@ -44,13 +44,13 @@ serving_ended Closed version owed e name (inl h) = inl (closed_named e name h)
 serving_ended Closed version owed e name (inr h) = inr h
 serving_ended Gone version owed e name h = gone_named e name h
 
-serving_owes_seen : (s : Side) (version : ℕ) (name : List ℕ) (outcome : Outcome) (got : List ℕ) (e : EndView) → ServingOwes version name outcome got e → ServingOwes version name outcome got (seen_under s e)
+serving_owes_seen : (s : PageSide) (version : ℕ) (name : List ℕ) (outcome : Outcome) (got : List ℕ) (e : EndView) → ServingOwes version name outcome got e → ServingOwes version name outcome got (seen_under s e)
 serving_owes_seen side.Laid version name outcome got e h = h
 serving_owes_seen (side.Server s) version name outcome got e h = record { owed = h.owed; is_service = h.is_service; got_is = h.got_is; sent = h.sent; fits = h.fits; ended = serving_ended outcome version h.owed e s.name h.ended }
 serving_owes_seen (side.Client c) version name outcome got e h = record { owed = h.owed; is_service = h.is_service; got_is = h.got_is; sent = h.sent; fits = h.fits; ended = serving_ended outcome version h.owed e c.name h.ended }
 
 -- what a side that serves has when its call is over, and the view of its end then
-pub serving_over : (version : ℕ) (name : List ℕ) (s : Side) (came : ServingResult) (end : DoneEnd) (outcome : Outcome) (got : List ℕ) (e : EndView)
+pub serving_over : (version : ℕ) (name : List ℕ) (s : PageSide) (came : ServingResult) (end : DoneEnd) (outcome : Outcome) (got : List ℕ) (e : EndView)
     → came ≡ record { outcome = outcome; got = got } → done_view end ≡ seen_under s e → ServingOwes version name outcome got e → ServingOwes version name came.outcome came.got (done_view end)
 serving_over version name s came end outcome got e is seen h =
     subst (λ v. ServingOwes version name came.outcome came.got v) (sym seen)
@@ -58,12 +58,12 @@ serving_over version name s came end outcome got e is seen h =
 
 -- ---- a session goes on
 
-pub calls_on : (version number : ℕ) (input : Snapshot (Vec ℕ Global)) (s : Side) (old new : CallerAt) {T E : Type 0} (r : Result T E) → OnOk r (IsSameCall old new) → OnOk r (IsCalling new.caller new.end)
+pub calls_on : (version number : ℕ) (input : Snapshot (Vec ℕ Global)) (s : PageSide) (old new : CallerAt) {T E : Type 0} (r : Result T E) → OnOk r (IsSameCall old new) → OnOk r (IsCalling new.caller new.end)
     → IsStage version (Calls number input s old) → OnOk r (IsStage version (Calls number input s new))
 calls_on version number input s old new (Ok x) same calling h = (calling, same.own ∙ h.1, same.input ∙ h.2)
 calls_on version number input s old new (Err e) same calling h = tt
 
-pub serves_on : (version number : ℕ) (service : Snapshot Builtin) (s : Side) (old new : ServingAt) {T E : Type 0} (r : Result T E) → OnOk r (new.serving.answering.own ≡ old.serving.answering.own)
+pub serves_on : (version number : ℕ) (service : Snapshot Builtin) (s : PageSide) (old new : ServingAt) {T E : Type 0} (r : Result T E) → OnOk r (new.serving.answering.own ≡ old.serving.answering.own)
     → OnOk r (IsAtWork new.serving new.end) → ((owed : List ℕ → Triple) → IsAnswering owed old.serving old.end → OnOk r (IsAnswering owed new.serving new.end))
     → IsStage version (Serves number service s old) → OnOk r (IsStage version (Serves number service s new))
 serves_on version number service s old new (Ok x) own work answering h = (work, own ∙ h.1, answering (builtin_owes service.value) h.2)

@@ -12,17 +12,17 @@ use Rattle.task_duties.specs.declared.ends.UnusedEnd.{UnusedEnd}
 use Rattle.task_duties.specs.declared.ends.UnusedEnd.TheVariants as unused
 use Rattle.task_duties.specs.declared.ends.DoneEnd.{DoneEnd}
 use Rattle.task_duties.specs.declared.ends.DoneEnd.TheVariants as done
-use Rattle.data_slots.specs.declared.side.Side.{Side}
-use Rattle.data_slots.specs.declared.side.Side.TheVariants as side
+use Rattle.data_slots.specs.declared.side.PageSide.{PageSide}
+use Rattle.data_slots.specs.declared.side.PageSide.TheVariants as side
 
 -- the view of an end in use
-abbrev pub seen_under : Side → EndView → EndView
+abbrev pub seen_under : PageSide → EndView → EndView
 seen_under side.Laid end = end
 seen_under (side.Server s) end = named s.name end
 seen_under (side.Client c) end = named c.name end
 
 -- what keeps the end's place belongs to this end
-abbrev pub IsSideOf : Side → EndView → Type 0
+abbrev pub IsSideOf : PageSide → EndView → Type 0
 IsSideOf side.Laid end = Unit {0}
 IsSideOf (side.Server s) end = (end.page ≡ s.table) × (end.role ≡ Server)
 IsSideOf (side.Client c) end = (end.page ≡ c.table) × (end.role ≡ Client)
@@ -41,7 +41,7 @@ is_late_unused (unused.Laid end) = false
 is_late_unused (unused.Server s) = true
 is_late_unused (unused.Client c) = true
 
-abbrev pub is_late_side : Side → Bool
+abbrev pub is_late_side : PageSide → Bool
 is_late_side side.Laid = false
 is_late_side (side.Server s) = true
 is_late_side (side.Client c) = true

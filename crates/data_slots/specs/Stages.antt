@@ -22,8 +22,8 @@ use Rattle.data_slots.specs.declared.stage.Stage.{Stage}
 use Rattle.data_slots.specs.declared.stage.Stage.TheVariants.{Unused, Calls, Awaits, Serves, CallIsOver, ServingIsOver, Taken}
 use Rattle.data_slots.specs.declared.results.CallerResult.{CallerResult}
 use Rattle.data_slots.specs.declared.slot.Slot.{Slot}
-use Rattle.data_slots.specs.declared.report.Report.{Report}
-use Rattle.data_slots.specs.declared.report.Report.TheVariants.{Call, Serving}
+use Rattle.data_slots.specs.declared.done.SessionDone.{SessionDone}
+use Rattle.data_slots.specs.declared.done.SessionDone.TheVariants.{Call, Serving}
 use Rattle.data_slots.specs.Done.{caller_done}
 use Rattle.data_slots.specs.Slots.{Held, held_of}
 use Rattle.data_slots.specs.Sides.{HasLaid, IsSideOf, seen_under, is_late_unused, is_late_side, is_late_done}
@@ -143,7 +143,7 @@ told_of (Payload from to port) (ForServing number service) = Some (record { doma
 told_of place used = None
 
 -- a report is that of an end at this place, with this use and this view
-abbrev pub IsReportOf : ℕ → PagePlace → Use → EndView → Report → Type 0
+abbrev pub IsReportOf : ℕ → PagePlace → Use → EndView → SessionDone → Type 0
 IsReportOf version place ForNothing end report = Unit {0}
 IsReportOf version (Payload from to port) (ForCall number input) end (Call n over) =
     (n ≡ number) × (over.to ≡ to) × (over.port ≡ port) × CallerOwes version input (caller_done over) end

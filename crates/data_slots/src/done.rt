@@ -1,6 +1,9 @@
-//! What an agent's data ends report.
+//! What came of the sessions of an agent's data ends.
+ghost use Rattle.std.specs.Prelude.{◌≡◌};
+
 use qrexec_data::Outcome;
 use qrexec_frame::Bytes;
+use std::mem;
 use task_duties::{RetiredEnd, ServedDone};
 
 /// What came of the session of a call of the agent's own.
@@ -29,4 +32,39 @@ pub struct DataDone {
     pub calls: Vec<Option<CallOver>>,
     /// What was served, in the order in which it began.
     pub served: Vec<ServedDone>,
+}
+
+/// What came of the session of an end, if it had one.
+#[derive(Drop)]
+pub(crate) enum SessionDone {
+    Nothing,
+    Call { number: usize, over: CallOver },
+    Serving { number: usize, done: ServedDone },
+}
+
+impl SessionDone {
+    ghost use Rattle.std.specs.Prelude.{Some, IsSome};
+    ghost use Rattle.data_slots.specs.Reports.{call_in, served_in};
+
+    /// Takes out what came of a call.
+    pub(crate) fn take_call(&mut self) -> CallOver
+        requires { IsSome (call_in self.old) }
+        ensures { call_in self.old ≡ Some result }
+    {
+        match mem::replace(self, SessionDone::Nothing) {
+            SessionDone::Call { over, .. } => over,
+            _ => unreachable!(),
+        }
+    }
+
+    /// Takes out what came of a served session.
+    pub(crate) fn take_served(&mut self) -> ServedDone
+        requires { IsSome (served_in self.old) }
+        ensures { served_in self.old ≡ Some result }
+    {
+        match mem::replace(self, SessionDone::Nothing) {
+            SessionDone::Serving { done, .. } => done,
+            _ => unreachable!(),
+        }
+    }
 }

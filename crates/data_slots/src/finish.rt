@@ -7,9 +7,8 @@ ghost use Rattle.data_slots.specs.Stages.{CanRetire, is_session};
 ghost use Rattle.data_slots.specs.Whole.{held_in};
 ghost use Rattle.data_slots.specs.Finished.{AreFinished, AreCalls, AreServings, KeepsServings, HasCall, KeepsOthers, call_at, served_at};
 
-use crate::done::CallOver;
+use crate::done::{CallOver, SessionDone};
 use crate::note::{CallNote, ServedNote};
-use crate::report::Report;
 use crate::slot::Slot;
 use std::alloc::{AllocError, Global};
 use task_duties::{RetiredEnd, ServedDone};
@@ -39,7 +38,7 @@ pub(crate) fn finish_all(
     slots: Vec<Slot>,
     first: RetiredEnd,
     mut retired: Vec<RetiredEnd>,
-    reports: &mut Vec<Report>,
+    reports: &mut Vec<SessionDone>,
 ) -> Vec<RetiredEnd>
     requires retire { Each (λ s. CanRetire s.stage) slots.items }
     requires closed { Each (λ s. is_session s.stage ≡ false) slots.items }
@@ -62,7 +61,7 @@ pub(crate) fn session_ends(
     alloc: Global,
     calls: &[Option<CallNote>],
     served: &[ServedNote],
-    reports: &mut [Report],
+    reports: &mut [SessionDone],
 ) -> Result<(Vec<Option<CallOver>>, Vec<ServedDone>), AllocError>
     requires calls { AreCalls reports.old calls.now }
     requires served { AreServings reports.old served.now }
@@ -78,7 +77,7 @@ pub(crate) fn session_ends(
 fn call_ends(
     alloc: Global,
     calls: &[Option<CallNote>],
-    reports: &mut [Report],
+    reports: &mut [SessionDone],
 ) -> Result<Vec<Option<CallOver>>, AllocError>
     requires { AreCalls reports.old calls.now }
     ensures ends { IfOk result (λ done. done.items ≡ map (call_at reports.old) calls.now) }
@@ -95,7 +94,7 @@ fn call_ends(
 fn served_ends(
     alloc: Global,
     served: &[ServedNote],
-    reports: &mut [Report],
+    reports: &mut [SessionDone],
 ) -> Result<Vec<ServedDone>, AllocError>
     requires { AreServings reports.old served.now }
     ensures { IfOk result (λ done. map Some done.items ≡ map (served_at reports.old) served.now) }
@@ -108,7 +107,7 @@ fn served_ends(
 }
 
 // What came of a call, if it has a session.
-fn call_end(note: &Option<CallNote>, reports: &mut [Report]) -> Option<CallOver>
+fn call_end(note: &Option<CallNote>, reports: &mut [SessionDone]) -> Option<CallOver>
     requires { HasCall reports.old note.now }
     ensures end { result ≡ call_at reports.old note.now }
     ensures others { KeepsOthers note.now reports.old reports.new }
@@ -120,7 +119,7 @@ fn call_end(note: &Option<CallNote>, reports: &mut [Report]) -> Option<CallOver>
 }
 
 // What came of a served session.
-fn served_end(note: &ServedNote, reports: &mut [Report]) -> ServedDone
+fn served_end(note: &ServedNote, reports: &mut [SessionDone]) -> ServedDone
     requires { IsSome (served_at reports.old note.now) }
     ensures end { served_at reports.old note.now ≡ Some result }
     ensures others { (at : ℕ) → at ≢ note.now.at → slice_get reports.new at ≡ slice_get reports.old at }

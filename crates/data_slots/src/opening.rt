@@ -15,7 +15,7 @@ ghost use Rattle.data_slots.specs.Sessions.{AwaitsPage, ServesWith, Begins, sess
 ghost use Rattle.data_slots.specs.Sides.{HasLaid, IsSideOf, seen_under, is_late_unused, is_late_side};
 ghost use Rattle.data_slots.specs.Stages.{ForCall, ForServing, IsStage, CanRetire, CanTurn, IsUnusedBy, IsNewCaller, IsNewServing, HasPage, is_session, framed};
 
-use crate::side::{Side, open_server};
+use crate::side::{PageSide, open_server};
 use crate::stage::Stage;
 use channel_session::{CallerSession, ServingSession};
 use page_offer::{LaidPage, UnlaidClient};
@@ -161,7 +161,7 @@ fn serve_unused<'p>(
     ensures retire { CanRetire result }
 {
     match end {
-        UnusedEnd::Laid(end) => serve_at(number, service, serving, Side::Laid, end),
+        UnusedEnd::Laid(end) => serve_at(number, service, serving, PageSide::Laid, end),
         UnusedEnd::Client(side) => Stage::Awaits {
             number,
             service,
@@ -187,7 +187,7 @@ fn open_awaited<'p>(
     ensures stage { ServingStandsFor builtin_owes (builtin_owes service.value) serving [] → IsStage serving.answering.own result }
 {
     match side.open() {
-        Ok((end, side)) => serve_at(number, service, serving, Side::Client(side), end),
+        Ok((end, side)) => serve_at(number, service, serving, PageSide::Client(side), end),
         Err(side) => Stage::Awaits {
             number,
             service,
@@ -202,7 +202,7 @@ fn serve_at<'p>(
     number: usize,
     service: Snapshot<Builtin>,
     serving: Serving<Builtin>,
-    side: Side,
+    side: PageSide,
     end: End<'p>,
 ) -> Stage<'p>
     requires serving { IsNewServing serving }

@@ -8,7 +8,7 @@ ghost use Rattle.data_slots.specs.Sides.{IsSideOf, seen_under, is_late_side, is_
 ghost use Rattle.data_slots.specs.Stages.{result_of};
 
 use crate::done::CallOver;
-use crate::side::Side;
+use crate::side::PageSide;
 use channel_session::{CallerEnd, ServingEnd};
 use qrexec_data::Outcome;
 use qrexec_frame::Bytes;
@@ -31,7 +31,7 @@ pub(crate) struct ServingResult {
 }
 
 /// What a caller has when its call is over, and its end.
-pub(crate) fn caller_result(ended: CallerEnd, side: Side) -> (CallerResult, DoneEnd)
+pub(crate) fn caller_result(ended: CallerEnd, side: PageSide) -> (CallerResult, DoneEnd)
     requires { IsSideOf side (last_view ended.retired) }
     ensures result { result_of result.0 ≡ done_of ended }
     ensures end { done_view result.1 ≡ seen_under side (last_view ended.retired) }
@@ -54,7 +54,7 @@ pub(crate) fn caller_result(ended: CallerEnd, side: Side) -> (CallerResult, Done
 }
 
 /// What a side that serves has when its call is over, and its end.
-pub(crate) fn serving_result(ended: ServingEnd, side: Side) -> (ServingResult, DoneEnd)
+pub(crate) fn serving_result(ended: ServingEnd, side: PageSide) -> (ServingResult, DoneEnd)
     requires { IsSideOf side (last_view ended.retired) }
     ensures result { result.0 ≡ record { outcome = ended.outcome; got = ended.got } }
     ensures end { done_view result.1 ≡ seen_under side (last_view ended.retired) }

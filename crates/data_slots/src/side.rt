@@ -16,7 +16,7 @@ use vchan_rule::{End, Retired};
 /// What keeps the place of an end while it is in use: nothing if its page was laid before the first turn, and
 /// otherwise the end's side of the page.
 #[derive(Drop)]
-pub(crate) enum Side {
+pub(crate) enum PageSide {
     /// The page was laid before the first turn.
     Laid,
     /// The end is a server's, which has laid the page.
@@ -25,14 +25,14 @@ pub(crate) enum Side {
     Client(OpenClient),
 }
 
-impl Side {
+impl PageSide {
     /// Whether the page is one that is laid when it is first used.
     pub(crate) fn is_late(&self) -> bool
         ensures { result ≡ is_late_side self.now }
     {
         match self {
-            Side::Laid => false,
-            Side::Server(_) | Side::Client(_) => true,
+            PageSide::Laid => false,
+            PageSide::Server(_) | PageSide::Client(_) => true,
         }
     }
 
@@ -42,8 +42,8 @@ impl Side {
         ensures { self.new ≡ self.old }
     {
         match self {
-            Side::Server(side) => side.is_abandoned(),
-            Side::Laid | Side::Client(_) => false,
+            PageSide::Server(side) => side.is_abandoned(),
+            PageSide::Laid | PageSide::Client(_) => false,
         }
     }
 
@@ -54,15 +54,15 @@ impl Side {
         ensures late { is_late_done result ≡ is_late_side self }
     {
         match self {
-            Side::Laid => DoneEnd::Laid(retired),
-            Side::Server(side) => DoneEnd::Server(side.finish(retired)),
-            Side::Client(side) => DoneEnd::Client(side.finish(retired)),
+            PageSide::Laid => DoneEnd::Laid(retired),
+            PageSide::Server(side) => DoneEnd::Server(side.finish(retired)),
+            PageSide::Client(side) => DoneEnd::Client(side.finish(retired)),
         }
     }
 }
 
 /// Opens an unused end of a server whose page is laid. Returns the end and what keeps its place.
-pub(crate) fn open_server<'p>(end: UnusedEnd<'p>, laid: Option<LaidPage>) -> (End<'p>, Side)
+pub(crate) fn open_server<'p>(end: UnusedEnd<'p>, laid: Option<LaidPage>) -> (End<'p>, PageSide)
     requires unused { IsUnused (fresh_view end) × ((fresh_view end).role ≡ Server) }
     requires laid { HasLaid end laid }
     ensures unused { IsUnused (view result.0) × ((view result.0).role ≡ Server) }
@@ -71,14 +71,14 @@ pub(crate) fn open_server<'p>(end: UnusedEnd<'p>, laid: Option<LaidPage>) -> (En
     ensures late { is_late_side result.1 ≡ is_late_unused end.entry }
 {
     match end {
-        UnusedEnd::Laid(end) => (end, Side::Laid),
+        UnusedEnd::Laid(end) => (end, PageSide::Laid),
         UnusedEnd::Server(side) => open_laid(side, laid),
         UnusedEnd::Client(_) => unreachable!(),
     }
 }
 
 // Opens the end of a server that has laid its page.
-fn open_laid<'p>(side: UnlaidServer<'p>, laid: Option<LaidPage>) -> (End<'p>, Side)
+fn open_laid<'p>(side: UnlaidServer<'p>, laid: Option<LaidPage>) -> (End<'p>, PageSide)
     requires { HasLaid (UnusedEnd.Server side) laid }
     ensures unused { IsUnused (view result.0) × ((view result.0).role ≡ Server) }
     ensures seen { seen_under result.1 (view result.0) ≡ fresh_view (UnusedEnd.Server side.entry) }
@@ -87,7 +87,7 @@ fn open_laid<'p>(side: UnlaidServer<'p>, laid: Option<LaidPage>) -> (End<'p>, Si
 {
     let Some(laid) = laid else { unreachable!() };
     let (end, side) = side.open(laid);
-    (end, Side::Server(side))
+    (end, PageSide::Server(side))
 }
 
 /// Retires a data end that no agent has, and that was never used.

@@ -8,8 +8,8 @@ ghost use Rattle.data_slots.specs.Slots.{held_at};
 ghost use Rattle.data_slots.specs.Sessions.{TakesTurn, ComesToItsEnd, session_of};
 ghost use Rattle.data_slots.specs.Stages.{ForCall, ForServing, IsStage, CanRetire, CanTurn, IsUnusedBy, IsNewCaller, IsNewServing, HasComeOut, IsReportOf, HasPage, is_nothing, is_session, is_late, use_of, told_of, place_of, frame_of};
 
+use crate::done::SessionDone;
 use crate::opening::lay;
-use crate::report::Report;
 use crate::results::{call_over, served_done};
 use crate::side::retire_unused;
 use crate::stage::Stage;
@@ -207,7 +207,7 @@ impl<'p> Slot<'p> {
     }
 
     /// Retires the end, which has no open session, and returns what came of its session.
-    pub(crate) fn finish(self) -> (RetiredEnd, Report)
+    pub(crate) fn finish(self) -> (RetiredEnd, SessionDone)
         requires retire { CanRetire self.stage }
         requires closed { is_session self.stage ≡ false }
         ensures held { held_at (retired_at result.0) ≡ (frame_of self.entry).held }
@@ -224,7 +224,7 @@ impl<'p> Slot<'p> {
         match stage {
             Stage::Unused { end } => {
                 let retired = retire_unused(end);
-                (RetiredEnd { place, retired }, Report::Nothing)
+                (RetiredEnd { place, retired }, SessionDone::Nothing)
             }
             Stage::CallIsOver {
                 number,
@@ -234,7 +234,10 @@ impl<'p> Slot<'p> {
             } => {
                 let over = call_over(to, port, came);
                 let retired = end;
-                (RetiredEnd { place, retired }, Report::Call { number, over })
+                (
+                    RetiredEnd { place, retired },
+                    SessionDone::Call { number, over },
+                )
             }
             Stage::ServingIsOver {
                 number,
@@ -246,7 +249,7 @@ impl<'p> Slot<'p> {
                 let retired = end;
                 (
                     RetiredEnd { place, retired },
-                    Report::Serving { number, done },
+                    SessionDone::Serving { number, done },
                 )
             }
             _ => unreachable!(),

@@ -14,7 +14,7 @@ ghost use Rattle.data_slots.specs.Sessions.{TakesTurn, LosesNothing, ComesToItsE
 ghost use Rattle.data_slots.specs.Stages.{IsStage, CanRetire, CanTurn, HasComeOut, is_session, framed};
 
 use crate::results::{CallerResult, ServingResult, caller_result, serving_result};
-use crate::side::{Side, retire_unused};
+use crate::side::{PageSide, retire_unused};
 use channel_session::{CallerSession, ServingSession};
 use page_offer::UnlaidClient;
 use qrexec_data::{Outcome, Serving};
@@ -34,7 +34,7 @@ pub(crate) enum Stage<'p> {
     Calls {
         number: usize,
         input: Snapshot<Vec<u8>>,
-        side: Side,
+        side: PageSide,
         session: CallerSession<'p>,
     },
     /// A call that the agent serves, and whose caller hasn't offered the page yet.
@@ -48,7 +48,7 @@ pub(crate) enum Stage<'p> {
     Serves {
         number: usize,
         service: Snapshot<Builtin>,
-        side: Side,
+        side: PageSide,
         session: ServingSession<'p>,
     },
     /// A call of the agent's own that is over.

@@ -41,7 +41,7 @@ use Rattle.task_duties.proofs.place.PagePlace.TheSendSync as place
 use Rattle.task_duties.specs.contracts.ends.DataEnd as data_end
 use Rattle.data_slots.specs.contracts.note.CallNote as call_note
 use Rattle.data_slots.specs.contracts.note.ServedNote as served_note
-use Rattle.data_slots.specs.contracts.side.Side as side
+use Rattle.data_slots.specs.contracts.side.PageSide as side
 use Rattle.data_slots.proofs.results.CallerResult.TheSendSync as caller_result
 use Rattle.data_slots.proofs.results.ServingResult.TheSendSync as serving_result
 use Rattle.data_slots.specs.contracts.stage.Stage as stage

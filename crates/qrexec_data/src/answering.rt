@@ -10,8 +10,8 @@ ghost use Rattle.qrexec_data.specs.Reading.{IsByBytes};
 ghost use Rattle.qrexec_data.specs.Answering.{AnswersTo, FeedsOn, EndsOn, after_greeting, faulted, laid_next, laid_on, end_bytes, over_if, after_gone};
 
 use crate::limit::most;
-use crate::outbox::Outbox;
 use crate::outcome::{Outcome, SessionFault};
+use crate::unsent::Unsent;
 use qrexec_frame::{Body, Kind};
 use qrexec_hello::Hello;
 use service_gate::Service;
@@ -33,7 +33,7 @@ pub(crate) struct Answering<S: Service> {
     err: Vec<u8>,
     err_laid: usize,
     closed: bool,
-    waiting: Outbox,
+    waiting: Unsent,
     outcome: Option<Outcome>,
 }
 
@@ -77,7 +77,7 @@ impl<S: Service> Answering<S> {
             err: Vec::new(alloc),
             err_laid: 0,
             closed: false,
-            waiting: Outbox::new(alloc),
+            waiting: Unsent::new(alloc),
             outcome: None,
         }
     }
@@ -257,7 +257,7 @@ impl<S: Service> Answering<S> {
 // Puts the next bytes of an output, at most as many as a message may carry, in a message after
 // those that wait.
 fn lay_output(
-    waiting: &mut Outbox,
+    waiting: &mut Unsent,
     kind: Kind,
     output: &mut Vec<u8>,
     laid: &mut usize,
@@ -281,7 +281,7 @@ fn lay_output(
 }
 
 // Puts the ends of both outputs and the exit code after the messages that wait.
-fn lay_end(waiting: &mut Outbox, code: i32) -> Result<(), Memory>
+fn lay_end(waiting: &mut Unsent, code: i32) -> Result<(), Memory>
     ensures { OnOk result (waiting.new ≡ waiting.old ++ end_bytes code) }
 {
     waiting.put_data(Kind::Stdout, &[])?;

@@ -11,11 +11,11 @@ mod caller;
 mod inbox;
 pub mod laws;
 mod limit;
-mod outbox;
 mod outcome;
 mod replies;
 mod requests;
 mod serving;
+mod unsent;
 
 pub use caller::{Caller, CallerParts};
 pub use outcome::{Outcome, SessionFault};

@@ -6,7 +6,7 @@ ghost use Rattle.qrexec_data.specs.Requests.{laid_next, laid_on};
 ghost use Rattle.qrexec_data.specs.Sending.{most};
 
 use crate::limit::most;
-use crate::outbox::Outbox;
+use crate::unsent::Unsent;
 use qrexec_frame::Kind;
 use std::alloc::Global;
 use std::marker::Model;
@@ -20,7 +20,7 @@ pub(crate) struct Requests {
     input: Vec<u8>,
     laid: usize,
     closed: bool,
-    waiting: Outbox,
+    waiting: Unsent,
 }
 
 impl Model for Requests {
@@ -52,7 +52,7 @@ impl Requests {
         requires chunk { (0 < chunk) × (chunk ≤ 65536) }
         ensures { IfOk result (λ r. r ≡ record { chunk = chunk; input = input.items; laid = 0; closed = false; waiting = written (message.Hello own) }) }
     {
-        let mut waiting = Outbox::new(alloc);
+        let mut waiting = Unsent::new(alloc);
         waiting.put_greeting(own)?;
         Ok(Requests {
             chunk: chunk as usize,

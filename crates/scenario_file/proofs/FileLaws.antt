@@ -3,8 +3,8 @@ use Rattle.std.proofs.Common.{◌≡◌, ℕ, List, sym, ◌∙◌, refl, Result
 use Rattle.toml.specs.Data.{Members}
 use Rattle.scenario_file.specs.declared.error.ScenarioError.{ScenarioError}
 use Rattle.scenario_file.specs.declared.error.ScenarioError.TheVariants as whole
-use Rattle.scenario_file.specs.declared.place.Refusal.{Refusal}
-use Rattle.scenario_file.specs.declared.place.Refusal.TheVariants as part
+use Rattle.scenario_file.specs.declared.place.CheckError.{CheckError}
+use Rattle.scenario_file.specs.declared.place.CheckError.TheVariants as part
 use Rattle.scenario_file.specs.declared.place.Section.TheVariants.{Top}
 use Rattle.scenario_file.specs.declared.scenario.Domain.{Domain}
 use Rattle.scenario_file.specs.declared.scenario.CallPlan.{CallPlan}
@@ -24,7 +24,7 @@ pub totals_left : (top : Members) (rings : RingsRead) (domains : List Domain) (c
 totals_left top rings domains calls is = rw (is.keys, is.rings_read, is.domains_read, is.calls_read) refl
 
 -- totals that are refused
-pub totals_refused : (top : Members) (rings : RingsRead) (domains : List Domain) (calls : List CallPlan) (e : Refusal) → IsReadBefore top rings domains calls
+pub totals_refused : (top : Members) (rings : RingsRead) (domains : List Domain) (calls : List CallPlan) (e : CheckError) → IsReadBefore top rings domains calls
     → IsRefusal e (within_totals (written_with rings domains calls)) → IsRefusal e (scenario_in top)
 totals_refused top rings domains calls e is h = rw (totals_left top rings domains calls is) h
 
@@ -47,7 +47,7 @@ document_refused (whole.Bad kind path) bytes h = scenario_nowhere bytes (kind, p
 document_refused whole.Memory bytes h = tt
 
 -- what is told is what was refused
-pub told_refusal : {Y : Type 0} (e : ScenarioError) (refusal : Refusal) (due : Result Y Fault) → Tells e refusal → IsRefusal refusal due → IsFault e due
+pub told_refusal : {Y : Type 0} (e : ScenarioError) (refusal : CheckError) (due : Result Y Fault) → Tells e refusal → IsRefusal refusal due → IsFault e due
 told_refusal (whole.Bad kind path) (part.Bad because place) due told h =
     let kinds = sym told.0 in
     let paths = sym told.1 in

@@ -15,8 +15,8 @@ use Rattle.std.proofs.lemmas.List.{length_push}
 use Rattle.scenario_file.specs.declared.place.Section.TheVariants as section
 use Rattle.scenario_file.specs.Checks.{Fault, all_from, key_list, path_of}
 use Rattle.scenario_file.proofs.NumberLaws.{IsNumbered, IsNumbered_push}
-use Rattle.scenario_file.specs.declared.place.Refusal.{Refusal}
-use Rattle.scenario_file.specs.declared.place.Refusal.TheVariants as part
+use Rattle.scenario_file.specs.declared.place.CheckError.{CheckError}
+use Rattle.scenario_file.specs.declared.place.CheckError.TheVariants as part
 use Rattle.std.specs.Str.{IsUtf8, is_utf8}
 use Rattle.std.proofs.lemmas.Str.{IsUtf8-from_is_utf8, is_utf8-from_IsUtf8}
 use Rattle.std.proofs.Common.{codes}
@@ -68,7 +68,7 @@ unfolding all_from
 all_from_all next before vs i all = let none : drop i vs ≡ [] = grind (arith, common_steps) in rw none refl
 
 -- what an item refuses, the list refuses
-pub refused_item : {A B : Type 0} (e : Refusal) (due : Result A Fault) (whole : Result B Fault) → ((fault : Fault) → due ≡ Err fault → whole ≡ Err fault) → IsRefusal e due → IsRefusal e whole
+pub refused_item : {A B : Type 0} (e : CheckError) (due : Result A Fault) (whole : Result B Fault) → ((fault : Fault) → due ≡ Err fault → whole ≡ Err fault) → IsRefusal e due → IsRefusal e whole
 refused_item (part.Bad kind place) due whole goes h = goes (kind, place_path place) h
 refused_item part.Memory due whole goes h = tt
 
@@ -115,7 +115,7 @@ some_items_full [] some = absurd (some refl)
 some_items_full (v ∷ vs) some = refl
 
 -- what a loop over the items owes if an item is refused, if one is read, and at its end
-pub item_refused : {A : Type 0} (next : List A → Data → Result A Fault) (before seen : List A) (vs : List Value) (i : ℕ) (v : Value) (all : Result (List A) Fault) (e : Refusal) → i < length vs
+pub item_refused : {A : Type 0} (next : List A → Data → Result A Fault) (before seen : List A) (vs : List Value) (i : ℕ) (v : Value) (all : Result (List A) Fault) (e : CheckError) → i < length vs
     → v ≡ get_or vs i v → seen ≡ before → all_from next before (items_view (drop i vs)) ≡ all → IsRefusal e (next seen (view v)) → IsRefusal e all
 item_refused next before seen vs i v all e within same is so_far h =
     refused_item e (next seen (view v)) all (λ fault due. sym so_far ∙ all_from_bad next before vs i v fault within same (rw (← is) due)) h

@@ -3,9 +3,9 @@ use Rattle.std.specs.Prelude.{◌≡◌, ℕ, List, Option, Some, None, Result, 
 use Rattle.scenario_file.specs.declared.error.ScenarioError.{ScenarioError}
 use Rattle.scenario_file.specs.declared.error.ScenarioError.TheVariants as whole
 use Rattle.scenario_file.specs.declared.error.ScenarioKind.TheVariants.{Toml}
-use Rattle.scenario_file.specs.declared.place.Place.{Place}
-use Rattle.scenario_file.specs.declared.place.Refusal.{Refusal}
-use Rattle.scenario_file.specs.declared.place.Refusal.TheVariants as part
+use Rattle.scenario_file.specs.declared.place.KeyPlace.{KeyPlace}
+use Rattle.scenario_file.specs.declared.place.CheckError.{CheckError}
+use Rattle.scenario_file.specs.declared.place.CheckError.TheVariants as part
 use Rattle.scenario_file.specs.declared.place.Section.{Section}
 use Rattle.scenario_file.specs.Checks.{Fault, path_of, item_path}
 
@@ -14,16 +14,16 @@ abbrev pub path_at : Section → List ℕ → Option ℕ → List ℕ
 path_at section key None = path_of section key
 path_at section key (Some number) = item_path section key number
 
-abbrev pub place_path : Place → List ℕ
+abbrev pub place_path : KeyPlace → List ℕ
 place_path place = path_at place.section place.key.now place.item
 
 -- a refusal is the one that is due; memory may always run out
-abbrev pub IsRefusal : {Y : Type 0} → Refusal → Result Y Fault → Type 0
+abbrev pub IsRefusal : {Y : Type 0} → CheckError → Result Y Fault → Type 0
 IsRefusal (part.Bad kind place) due = due ≡ Err (kind, place_path place)
 IsRefusal part.Memory due = Unit {0}
 
 -- a reader answers what is due, as contracts see it; memory may always run out
-abbrev pub Gives : {X Y : Type 0} → (X → Y) → Result X Refusal → Result Y Fault → Type 0
+abbrev pub Gives : {X Y : Type 0} → (X → Y) → Result X CheckError → Result Y Fault → Type 0
 Gives seen (Ok x) due = due ≡ Ok (seen x)
 Gives seen (Err e) due = IsRefusal e due
 
@@ -33,7 +33,7 @@ IsFault (whole.Bad kind path) due = due ≡ Err (kind, path)
 IsFault whole.Memory due = Unit {0}
 
 -- a refusal of this kind and path, or memory ran out
-abbrev pub Tells : ScenarioError → Refusal → Type 0
+abbrev pub Tells : ScenarioError → CheckError → Type 0
 Tells (whole.Bad kind path) (part.Bad because place) = (kind ≡ because) × (path ≡ place_path place)
 Tells (whole.Bad kind path) part.Memory = ⊥
 Tells whole.Memory refusal = Unit {0}

@@ -19,7 +19,7 @@ use crate::keys::{
 };
 use crate::lookup::{domain_at_place, place_named};
 use crate::names::{is_name, is_service, text_of};
-use crate::place::{Place, Refusal, Section};
+use crate::place::{CheckError, KeyPlace, Section};
 use crate::scenario::{CallPlan, Domain};
 use qrexec_frame::{Bytes, Text};
 use script_words::{ByteError, bytes_of};
@@ -37,7 +37,7 @@ pub(crate) fn read_calls<'t>(
     alloc: Global,
     domains: &[Domain],
     top: &'t Table,
-) -> Result<Vec<CallPlan>, Refusal<'t>>
+) -> Result<Vec<CallPlan>, CheckError<'t>>
     requires { length domains.now ≤ 32 }
     ensures calls { Gives (λ calls. calls.items) result (calls_of domains.now (table_view top.now)) }
     ensures few { IfOk result (λ calls. length calls.items ≤ 4096) }
@@ -45,7 +45,7 @@ pub(crate) fn read_calls<'t>(
     ensures rising { IfOk result (λ calls. Rises 0 calls.items) }
 {
     let items = list_at(top, Section::Top, "call")?;
-    at_most(MOST_CALLS, items, Place::key(Section::Top, "call"))?;
+    at_most(MOST_CALLS, items, KeyPlace::key(Section::Top, "call"))?;
     read_items(alloc, domains, items)
 }
 
@@ -54,7 +54,7 @@ fn read_items<'t>(
     alloc: Global,
     domains: &[Domain],
     items: &'t [Value],
-) -> Result<Vec<CallPlan>, Refusal<'t>>
+) -> Result<Vec<CallPlan>, CheckError<'t>>
     requires few_domains { length domains.now ≤ 32 }
     requires few_calls { length items.now ≤ 4096 }
     ensures calls { Gives (λ calls. calls.items) result (all_from (next_call domains.now) [] (items_view items.now)) }
@@ -76,7 +76,7 @@ fn next_call<'t>(
     domains: &[Domain],
     before: &[CallPlan],
     item: &'t Value,
-) -> Result<CallPlan, Refusal<'t>>
+) -> Result<CallPlan, CheckError<'t>>
     requires few_domains { length domains.now ≤ 32 }
     requires few_calls { length before.now < 4096 }
     ensures call { Gives (λ call. call) result (next_call domains.now before.now (view item.now)) }
@@ -84,7 +84,7 @@ fn next_call<'t>(
     ensures number { IfOk result (λ call. call.number ≡ length before.now + 1) }
 {
     let number = before.len() + 1;
-    let table = table_in(item, Place::item(Section::Top, "call", number))?;
+    let table = table_in(item, KeyPlace::item(Section::Top, "call", number))?;
     read_call(alloc, domains, number, table)
 }
 
@@ -94,7 +94,7 @@ fn read_call<'t>(
     domains: &[Domain],
     number: usize,
     table: &'t Table,
-) -> Result<CallPlan, Refusal<'t>>
+) -> Result<CallPlan, CheckError<'t>>
     requires few { length domains.now ≤ 32 }
     requires number { number ≤ 4096 }
     ensures call { Gives (λ call. call) result (call_in domains.now number (table_view table.now)) }
@@ -112,16 +112,20 @@ fn read_call<'t>(
 }
 
 /// Reads the key `from` of a call.
-fn read_caller<'t>(domains: &[Domain], number: usize, table: &'t Table) -> Result<u32, Refusal<'t>>
+fn read_caller<'t>(
+    domains: &[Domain],
+    number: usize,
+    table: &'t Table,
+) -> Result<u32, CheckError<'t>>
     requires { length domains.now ≤ 32 }
     ensures caller { Gives (λ from. from) result (caller_of number domains.now (table_view table.now)) }
     ensures honest { IfOk result (IsHonest domains.now) }
 {
     let section = Section::Call(number);
     let name = needed_text(table, section, "from")?;
-    caller_named(domains, name.as_bytes()).ok_or(Refusal::Bad(
+    caller_named(domains, name.as_bytes()).ok_or(CheckError::Bad(
         ScenarioKind::BadCaller,
-        Place::key(section, "from"),
+        KeyPlace::key(section, "from"),
     ))
 }
 
@@ -140,33 +144,33 @@ fn caller_named(domains: &[Domain], name: &[u8]) -> Option<u32>
 }
 
 /// Reads the key `to` of a call.
-fn read_target<'t>(alloc: Global, number: usize, table: &'t Table) -> Result<Text, Refusal<'t>>
+fn read_target<'t>(alloc: Global, number: usize, table: &'t Table) -> Result<Text, CheckError<'t>>
     ensures target { Gives (λ to. to) result (target_of number (table_view table.now)) }
     ensures clean { IfOk result (λ to. is_name to ≡ true) }
 {
     let section = Section::Call(number);
     let text = needed_text(table, section, "to")?.as_bytes();
     if !is_name(text) {
-        return Err(Refusal::Bad(ScenarioKind::BadText, Place::key(section, "to")));
+        return Err(CheckError::Bad(ScenarioKind::BadText, KeyPlace::key(section, "to")));
     }
     Ok(text_of(alloc, text)?)
 }
 
 /// Reads the key `service` of a call.
-fn read_service<'t>(alloc: Global, number: usize, table: &'t Table) -> Result<Text, Refusal<'t>>
+fn read_service<'t>(alloc: Global, number: usize, table: &'t Table) -> Result<Text, CheckError<'t>>
     ensures service { Gives (λ service. service) result (service_of number (table_view table.now)) }
     ensures clean { IfOk result (λ service. is_service service ≡ true) }
 {
     let section = Section::Call(number);
     let text = needed_text(table, section, "service")?.as_bytes();
     if !is_service(text) {
-        return Err(Refusal::Bad(ScenarioKind::BadText, Place::key(section, "service")));
+        return Err(CheckError::Bad(ScenarioKind::BadText, KeyPlace::key(section, "service")));
     }
     Ok(text_of(alloc, text)?)
 }
 
 /// Reads the input of a call, by one of three keys.
-fn read_stdin<'t>(alloc: Global, number: usize, table: &'t Table) -> Result<Bytes, Refusal<'t>>
+fn read_stdin<'t>(alloc: Global, number: usize, table: &'t Table) -> Result<Bytes, CheckError<'t>>
     ensures stdin { Gives (λ stdin. stdin) result (stdin_of number (table_view table.now)) }
     ensures within { IfOk result (λ stdin. length stdin ≤ 1048576) }
 {
@@ -184,14 +188,14 @@ fn read_text_input<'t>(
     alloc: Global,
     number: usize,
     table: &'t Table,
-) -> Result<Option<Bytes>, Refusal<'t>>
+) -> Result<Option<Bytes>, CheckError<'t>>
     ensures input { Gives (λ input. input) result (optional None (input_in number) (get_member (codes "stdin") (table_view table.now))) }
     ensures within { IfOk result (λ input. IfSome input (λ bytes. length bytes ≤ 1048576)) }
 {
     let Some(value) = member(table, "stdin") else {
         return Ok(None);
     };
-    let text = text_in(value, Place::key(Section::Call(number), "stdin"))?;
+    let text = text_in(value, KeyPlace::key(Section::Call(number), "stdin"))?;
     let bytes = within_limit(number, text.as_bytes())?;
     Ok(Some(Bytes::of(Vec::from_slice(alloc, bytes)?)))
 }
@@ -202,7 +206,7 @@ fn read_hex_input<'t>(
     number: usize,
     table: &'t Table,
     before: Option<Bytes>,
-) -> Result<Option<Bytes>, Refusal<'t>>
+) -> Result<Option<Bytes>, CheckError<'t>>
     requires { IfSome before (λ bytes. length bytes ≤ 1048576) }
     ensures input { Gives (λ input. input) result (optional before (hex_input_in number before) (get_member (codes "stdin_hex") (table_view table.now))) }
     ensures within { IfOk result (λ input. IfSome input (λ bytes. length bytes ≤ 1048576)) }
@@ -210,7 +214,7 @@ fn read_hex_input<'t>(
     let Some(value) = member(table, "stdin_hex") else {
         return Ok(before);
     };
-    let at = Place::key(Section::Call(number), "stdin_hex");
+    let at = KeyPlace::key(Section::Call(number), "stdin_hex");
     let text = text_in(value, at)?;
     first_input(before.is_some(), at)?;
     let bytes = hex_bytes(alloc, text.as_bytes(), at)?;
@@ -226,7 +230,7 @@ fn read_fill_input<'t>(
     number: usize,
     table: &'t Table,
     before: Option<Bytes>,
-) -> Result<Option<Bytes>, Refusal<'t>>
+) -> Result<Option<Bytes>, CheckError<'t>>
     requires { IfSome before (λ bytes. length bytes ≤ 1048576) }
     ensures input { Gives (λ input. input) result (optional before (fill_input_in number before) (get_member (codes "stdin_fill") (table_view table.now))) }
     ensures within { IfOk result (λ input. IfSome input (λ bytes. length bytes ≤ 1048576)) }
@@ -234,51 +238,51 @@ fn read_fill_input<'t>(
     let Some(value) = member(table, "stdin_fill") else {
         return Ok(before);
     };
-    let at = Place::key(Section::Call(number), "stdin_fill");
+    let at = KeyPlace::key(Section::Call(number), "stdin_fill");
     let z = integer_in(value, at)?;
     first_input(before.is_some(), at)?;
-    let count = natural(z).ok_or(Refusal::Bad(ScenarioKind::BadNumber, at))?;
+    let count = natural(z).ok_or(CheckError::Bad(ScenarioKind::BadNumber, at))?;
     if count > MOST_STDIN as u64 {
-        return Err(Refusal::Bad(
+        return Err(CheckError::Bad(
             ScenarioKind::TooMany,
-            Place::key(Section::Call(number), "stdin"),
+            KeyPlace::key(Section::Call(number), "stdin"),
         ));
     }
     Ok(Some(Bytes::of(fill(alloc, count as u32)?)))
 }
 
 /// Checks that no input was given before the key at this place.
-fn first_input<'t>(is_second: bool, at: Place<'t>) -> Result<(), Refusal<'t>>
+fn first_input<'t>(is_second: bool, at: KeyPlace<'t>) -> Result<(), CheckError<'t>>
     ensures { Gives (λ x. x) result (first_input (place_path at.entry) is_second) }
 {
     if is_second {
-        Err(Refusal::Bad(ScenarioKind::TwoStdin, at))
+        Err(CheckError::Bad(ScenarioKind::TwoStdin, at))
     } else {
         Ok(())
     }
 }
 
 /// Returns the bytes that a byte string spells.
-fn hex_bytes<'t>(alloc: Global, text: &[u8], at: Place<'t>) -> Result<Vec<u8>, Refusal<'t>>
+fn hex_bytes<'t>(alloc: Global, text: &[u8], at: KeyPlace<'t>) -> Result<Vec<u8>, CheckError<'t>>
     ensures { Gives (λ bytes. bytes.items) result (ok_or (byte_string text.now) (BadText, place_path at.entry)) }
 {
     match bytes_of(alloc, text) {
         Ok(bytes) => Ok(bytes),
-        Err(ByteError::BadHex) => Err(Refusal::Bad(ScenarioKind::BadText, at)),
-        Err(ByteError::Memory) => Err(Refusal::Memory),
+        Err(ByteError::BadHex) => Err(CheckError::Bad(ScenarioKind::BadText, at)),
+        Err(ByteError::Memory) => Err(CheckError::Memory),
     }
 }
 
 /// Checks that an input is within the limit.
-fn within_limit<'t>(number: usize, bytes: &[u8]) -> Result<&[u8], Refusal<'t>>
+fn within_limit<'t>(number: usize, bytes: &[u8]) -> Result<&[u8], CheckError<'t>>
     ensures input { Gives (λ input. Some input.now) result (within_limit number bytes.now) }
     ensures within { IfOk result (λ input. length input.now ≤ 1048576) }
     ensures same { IfOk result (λ input. input.now ≡ bytes.now) }
 {
     if bytes.len() > MOST_STDIN {
-        Err(Refusal::Bad(
+        Err(CheckError::Bad(
             ScenarioKind::TooMany,
-            Place::key(Section::Call(number), "stdin"),
+            KeyPlace::key(Section::Call(number), "stdin"),
         ))
     } else {
         Ok(bytes)

@@ -18,7 +18,7 @@ use crate::keys::{
 };
 use crate::lookup::place_named;
 use crate::names::{is_name, text_of};
-use crate::place::{Place, Refusal, Section};
+use crate::place::{CheckError, KeyPlace, Section};
 use crate::scenario::Domain;
 use std::alloc::Global;
 use toml::{Table, Value};
@@ -30,7 +30,7 @@ const MOST_DOMAINS: usize = 32;
 const MOST_ACTS: usize = 256;
 
 /// Reads the list `domain` of the file.
-pub(crate) fn read_domains(alloc: Global, top: &Table) -> Result<Vec<Domain>, Refusal<'_>>
+pub(crate) fn read_domains(alloc: Global, top: &Table) -> Result<Vec<Domain>, CheckError<'_>>
     ensures domains { Gives (λ domains. domains.items) result (domains_of (table_view top.now)) }
     ensures few { IfOk result (λ domains. length domains.items ≤ 32) }
     ensures fit { IfOk result (λ domains. All DomainFits domains.items) }
@@ -38,17 +38,20 @@ pub(crate) fn read_domains(alloc: Global, top: &Table) -> Result<Vec<Domain>, Re
 {
     let items = list_at(top, Section::Top, "domain")?;
     some_items(items)?;
-    at_most(MOST_DOMAINS, items, Place::key(Section::Top, "domain"))?;
+    at_most(MOST_DOMAINS, items, KeyPlace::key(Section::Top, "domain"))?;
     read_items(alloc, items)
 }
 
 /// Checks that the list `domain` has an item.
 #[tactic(auto, using(crate::proofs::ReadLaws::some_items_full, crate::proofs::ReadLaws::some_items_none))]
-fn some_items<'t>(items: &[Value]) -> Result<(), Refusal<'t>>
+fn some_items<'t>(items: &[Value]) -> Result<(), CheckError<'t>>
     ensures { Gives (λ x. items_view items.now) result (some_items (items_view items.now)) }
 {
     if items.len() == 0 {
-        Err(Refusal::Bad(ScenarioKind::MissingKey, Place::key(Section::Top, "domain")))
+        Err(CheckError::Bad(
+            ScenarioKind::MissingKey,
+            KeyPlace::key(Section::Top, "domain"),
+        ))
     } else {
         Ok(())
     }
@@ -56,19 +59,23 @@ fn some_items<'t>(items: &[Value]) -> Result<(), Refusal<'t>>
 
 /// Checks that a list has at most `most` items.
 #[tactic(auto, using(crate::proofs::ReadLaws::item_count_seen))]
-pub(crate) fn at_most<'t>(most: usize, items: &[Value], at: Place<'t>) -> Result<(), Refusal<'t>>
+pub(crate) fn at_most<'t>(
+    most: usize,
+    items: &[Value],
+    at: KeyPlace<'t>,
+) -> Result<(), CheckError<'t>>
     ensures items { Gives (λ x. items_view items.now) result (at_most most (place_path at.entry) (items_view items.now)) }
     ensures few { IfOk result (λ x. length items.now ≤ most) }
 {
     if items.len() > most {
-        Err(Refusal::Bad(ScenarioKind::TooMany, at))
+        Err(CheckError::Bad(ScenarioKind::TooMany, at))
     } else {
         Ok(())
     }
 }
 
 /// Reads the items of the list `domain`.
-fn read_items(alloc: Global, items: &[Value]) -> Result<Vec<Domain>, Refusal<'_>>
+fn read_items(alloc: Global, items: &[Value]) -> Result<Vec<Domain>, CheckError<'_>>
     requires { length items.now ≤ 32 }
     ensures domains { Gives (λ domains. domains.items) result (all_from next_domain [] (items_view items.now)) }
     ensures few { IfOk result (λ domains. length domains.items ≤ 32) }
@@ -84,14 +91,18 @@ fn read_items(alloc: Global, items: &[Value]) -> Result<Vec<Domain>, Refusal<'_>
 }
 
 /// Reads an item as the domain after those before it.
-fn next_domain<'t>(alloc: Global, before: &[Domain], item: &'t Value) -> Result<Domain, Refusal<'t>>
+fn next_domain<'t>(
+    alloc: Global,
+    before: &[Domain],
+    item: &'t Value,
+) -> Result<Domain, CheckError<'t>>
     requires { length before.now < 32 }
     ensures domain { Gives (λ domain. domain) result (next_domain before.now (view item.now)) }
     ensures fits { IfOk result DomainFits }
     ensures new { IfOk result (λ domain. place_named before.now domain.name ≡ None) }
 {
     let number = before.len() + 1;
-    let table = table_in(item, Place::item(Section::Top, "domain", number))?;
+    let table = table_in(item, KeyPlace::item(Section::Top, "domain", number))?;
     read_domain(alloc, before, number, table)
 }
 
@@ -102,7 +113,7 @@ fn read_domain<'t>(
     before: &[Domain],
     number: usize,
     table: &'t Table,
-) -> Result<Domain, Refusal<'t>>
+) -> Result<Domain, CheckError<'t>>
     ensures domain { Gives (λ domain. domain) result (domain_in before.now number (table_view table.now)) }
     ensures fits { IfOk result DomainFits }
     ensures new { IfOk result (λ domain. place_named before.now domain.name ≡ None) }
@@ -128,7 +139,7 @@ fn read_numbers<'t>(
     number: usize,
     hostile: bool,
     table: &'t Table,
-) -> Result<(u32, u32), Refusal<'t>>
+) -> Result<(u32, u32), CheckError<'t>>
     ensures numbers { Gives (λ numbers. numbers) result (numbers_of number hostile (table_view table.now)) }
     ensures fit { IfOk result (λ numbers. NumbersFit hostile numbers.0 numbers.1) }
 {
@@ -141,17 +152,17 @@ fn read_numbers<'t>(
 }
 
 /// Checks that a text is a name, and that no domain before has it.
-fn new_name<'t>(before: &[Domain], number: usize, text: &'t str) -> Result<&'t [u8], Refusal<'t>>
+fn new_name<'t>(before: &[Domain], number: usize, text: &'t str) -> Result<&'t [u8], CheckError<'t>>
     ensures name { Gives (λ name. name.now) result (new_name number before.now text.now) }
     ensures clean { IfOk result (λ name. is_name name.now ≡ true) }
     ensures new { IfOk result (λ name. place_named before.now name.now ≡ None) }
 {
-    let at = Place::key(Section::Domain(number), "name");
+    let at = KeyPlace::key(Section::Domain(number), "name");
     let name = text.as_bytes();
     if !is_name(name) {
-        Err(Refusal::Bad(ScenarioKind::BadText, at))
+        Err(CheckError::Bad(ScenarioKind::BadText, at))
     } else if place_named(before, name).is_some() {
-        Err(Refusal::Bad(ScenarioKind::SameName, at))
+        Err(CheckError::Bad(ScenarioKind::SameName, at))
     } else {
         Ok(name)
     }
@@ -162,7 +173,7 @@ fn read_hostile<'t>(
     alloc: Global,
     number: usize,
     table: &'t Table,
-) -> Result<Option<Acts>, Refusal<'t>>
+) -> Result<Option<Acts>, CheckError<'t>>
     ensures hostile { Gives (λ hostile. hostile) result (optional None (hostile_in number) (get_member (codes "hostile") (table_view table.now))) }
     ensures fit { IfOk result HostileFits }
 {
@@ -173,11 +184,11 @@ fn read_hostile<'t>(
 }
 
 /// Reads a value as the acts of a domain.
-fn read_acts<'t>(alloc: Global, number: usize, value: &'t Value) -> Result<Acts, Refusal<'t>>
+fn read_acts<'t>(alloc: Global, number: usize, value: &'t Value) -> Result<Acts, CheckError<'t>>
     ensures acts { Gives (λ acts. Some acts) result (hostile_in number (view value.now)) }
     ensures fit { IfOk result AreActs }
 {
-    let at = Place::key(Section::Domain(number), "hostile");
+    let at = KeyPlace::key(Section::Domain(number), "hostile");
     let items = list_in(value, at)?.as_slice();
     at_most(MOST_ACTS, items, at)?;
     Ok(Acts::of(read_act_items(alloc, number, items)?))
@@ -188,7 +199,7 @@ fn read_act_items<'t>(
     alloc: Global,
     number: usize,
     items: &'t [Value],
-) -> Result<Vec<Act>, Refusal<'t>>
+) -> Result<Vec<Act>, CheckError<'t>>
     requires { length items.now ≤ 256 }
     ensures acts { Gives (λ acts. acts.items) result (all_from (next_act number) [] (items_view items.now)) }
     ensures fit { IfOk result (λ acts. AreActs acts.items) }
@@ -207,24 +218,24 @@ fn next_act<'t>(
     number: usize,
     before: &[Act],
     item: &'t Value,
-) -> Result<Act, Refusal<'t>>
+) -> Result<Act, CheckError<'t>>
     requires { length before.now < 256 }
     ensures act { Gives (λ act. act) result (next_act number before.now (view item.now)) }
     ensures fits { IfOk result ActFits }
 {
-    let at = Place::item(Section::Domain(number), "hostile", before.len() + 1);
+    let at = KeyPlace::item(Section::Domain(number), "hostile", before.len() + 1);
     act_in(alloc, item, at)
 }
 
 /// Reads a value as an act.
-fn act_in<'t>(alloc: Global, value: &'t Value, at: Place<'t>) -> Result<Act, Refusal<'t>>
+fn act_in<'t>(alloc: Global, value: &'t Value, at: KeyPlace<'t>) -> Result<Act, CheckError<'t>>
     ensures act { Gives (λ act. act) result (act_in (place_path at.entry) (view value.now)) }
     ensures fits { IfOk result ActFits }
 {
     let text = text_in(value, at)?;
     match read_act(alloc, text.as_bytes()) {
         Ok(act) => Ok(act),
-        Err(ActError::Bad) => Err(Refusal::Bad(ScenarioKind::BadAct, at)),
-        Err(ActError::Memory) => Err(Refusal::Memory),
+        Err(ActError::Bad) => Err(CheckError::Bad(ScenarioKind::BadAct, at)),
+        Err(ActError::Memory) => Err(CheckError::Memory),
     }
 }

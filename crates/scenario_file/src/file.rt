@@ -10,7 +10,7 @@ use crate::domains::read_domains;
 use crate::error::{ScenarioError, ScenarioKind};
 use crate::keys::check_keys;
 use crate::path::Path;
-use crate::place::{Refusal, Section};
+use crate::place::{CheckError, Section};
 use crate::rings::read_rings;
 use crate::scenario::Scenario;
 use crate::totals::check_totals;
@@ -67,7 +67,7 @@ fn no_document(alloc: Global) -> ScenarioError
 }
 
 /// Reads a table as a scenario.
-fn read_scenario(alloc: Global, top: &Table) -> Result<Scenario, Refusal<'_>>
+fn read_scenario(alloc: Global, top: &Table) -> Result<Scenario, CheckError<'_>>
     ensures { Gives written result (scenario_in (table_view top.now)) }
 {
     check_keys(top, Section::Top, false)?;

@@ -7,7 +7,7 @@ ghost use Rattle.scenario_file.specs.Readings.{Gives, place_path};
 ghost use Rattle.scenario_file.specs.Checks.{call_keys, integer_in, key_list, keys_of, known_keys, list_at, list_in, natural, needed, needed_text, number_at, number_in, table_in, text_in, within};
 
 use crate::error::ScenarioKind;
-use crate::place::{Place, Refusal, Section};
+use crate::place::{CheckError, KeyPlace, Section};
 use toml::value::Array;
 use toml::{Table, Value};
 
@@ -24,12 +24,15 @@ pub(crate) fn check_keys<'t>(
     table: &'t Table,
     section: Section,
     hostile: bool,
-) -> Result<(), Refusal<'t>>
+) -> Result<(), CheckError<'t>>
     ensures { Gives (λ x. x) result (known_keys section hostile (key_list (table_view table.now))) }
 {
     for key in table.keys() {
         if !is_known(section, hostile, key.as_str()) {
-            return Err(Refusal::Bad(ScenarioKind::UnknownKey, Place::key(section, key.as_str())));
+            return Err(CheckError::Bad(
+                ScenarioKind::UnknownKey,
+                KeyPlace::key(section, key.as_str()),
+            ));
         }
     }
     Ok(())
@@ -62,39 +65,39 @@ fn is_known_of_call(key: &str) -> bool
 }
 
 /// Returns the text of a value.
-pub(crate) fn text_in<'t>(value: &'t Value, at: Place<'t>) -> Result<&'t str, Refusal<'t>>
+pub(crate) fn text_in<'t>(value: &'t Value, at: KeyPlace<'t>) -> Result<&'t str, CheckError<'t>>
     ensures { Gives (λ text. text.now) result (text_in (place_path at.entry) (view value.now)) }
 {
     value
         .as_str()
-        .ok_or(Refusal::Bad(ScenarioKind::WrongType, at))
+        .ok_or(CheckError::Bad(ScenarioKind::WrongType, at))
 }
 
 /// Returns the integer of a value.
-pub(crate) fn integer_in<'t>(value: &Value, at: Place<'t>) -> Result<i64, Refusal<'t>>
+pub(crate) fn integer_in<'t>(value: &Value, at: KeyPlace<'t>) -> Result<i64, CheckError<'t>>
     ensures { Gives (λ z. z) result (integer_in (place_path at.entry) (view value.now)) }
 {
     value
         .as_integer()
-        .ok_or(Refusal::Bad(ScenarioKind::WrongType, at))
+        .ok_or(CheckError::Bad(ScenarioKind::WrongType, at))
 }
 
 /// Returns the list of a value.
-pub(crate) fn list_in<'t>(value: &'t Value, at: Place<'t>) -> Result<&'t Array, Refusal<'t>>
+pub(crate) fn list_in<'t>(value: &'t Value, at: KeyPlace<'t>) -> Result<&'t Array, CheckError<'t>>
     ensures { Gives (λ list. array_view list.now) result (list_in (place_path at.entry) (view value.now)) }
 {
     value
         .as_array()
-        .ok_or(Refusal::Bad(ScenarioKind::WrongType, at))
+        .ok_or(CheckError::Bad(ScenarioKind::WrongType, at))
 }
 
 /// Returns the table of a value.
-pub(crate) fn table_in<'t>(value: &'t Value, at: Place<'t>) -> Result<&'t Table, Refusal<'t>>
+pub(crate) fn table_in<'t>(value: &'t Value, at: KeyPlace<'t>) -> Result<&'t Table, CheckError<'t>>
     ensures { Gives (λ table. table_view table.now) result (table_in (place_path at.entry) (view value.now)) }
 {
     value
         .as_table()
-        .ok_or(Refusal::Bad(ScenarioKind::WrongType, at))
+        .ok_or(CheckError::Bad(ScenarioKind::WrongType, at))
 }
 
 /// Returns the value of a key that is needed.
@@ -102,10 +105,10 @@ fn needed<'t>(
     table: &'t Table,
     section: Section,
     key: &'static str,
-) -> Result<&'t Value, Refusal<'t>>
+) -> Result<&'t Value, CheckError<'t>>
     ensures { Gives (λ value. view value.now) result (needed section key.now (table_view table.now)) }
 {
-    member(table, key).ok_or(Refusal::Bad(ScenarioKind::MissingKey, Place::key(section, key)))
+    member(table, key).ok_or(CheckError::Bad(ScenarioKind::MissingKey, KeyPlace::key(section, key)))
 }
 
 /// Returns the text of a key that is needed.
@@ -113,11 +116,11 @@ pub(crate) fn needed_text<'t>(
     table: &'t Table,
     section: Section,
     key: &'static str,
-) -> Result<&'t str, Refusal<'t>>
+) -> Result<&'t str, CheckError<'t>>
     ensures { Gives (λ text. text.now) result (needed_text section key.now (table_view table.now)) }
 {
     let value = needed(table, section, key)?;
-    text_in(value, Place::key(section, key))
+    text_in(value, KeyPlace::key(section, key))
 }
 
 /// Returns the items of the list of a key; no items if the key has no value.
@@ -125,12 +128,12 @@ pub(crate) fn list_at<'t>(
     table: &'t Table,
     section: Section,
     key: &'static str,
-) -> Result<&'t [Value], Refusal<'t>>
+) -> Result<&'t [Value], CheckError<'t>>
     ensures { Gives (λ items. items_view items.now) result (list_at section key.now (table_view table.now)) }
 {
     match member(table, key) {
         None => Ok(&[]),
-        Some(value) => Ok(list_in(value, Place::key(section, key))?.as_slice()),
+        Some(value) => Ok(list_in(value, KeyPlace::key(section, key))?.as_slice()),
     }
 }
 
@@ -149,7 +152,7 @@ pub(crate) fn number_at<'t>(
     least: u32,
     most: u32,
     default: u32,
-) -> Result<u32, Refusal<'t>>
+) -> Result<u32, CheckError<'t>>
     requires low { least ≤ default }
     requires high { default ≤ most }
     ensures number { Gives (λ n. n) result (number_at least most default section key.now (table_view table.now)) }
@@ -157,19 +160,24 @@ pub(crate) fn number_at<'t>(
 {
     match member(table, key) {
         None => Ok(default),
-        Some(value) => number_in(value, Place::key(section, key), least, most),
+        Some(value) => number_in(value, KeyPlace::key(section, key), least, most),
     }
 }
 
 /// Returns the number of a value, from `least` to `most`.
-fn number_in<'t>(value: &Value, at: Place<'t>, least: u32, most: u32) -> Result<u32, Refusal<'t>>
+fn number_in<'t>(
+    value: &Value,
+    at: KeyPlace<'t>,
+    least: u32,
+    most: u32,
+) -> Result<u32, CheckError<'t>>
     ensures number { Gives (λ n. n) result (number_in least most (place_path at.entry) (view value.now)) }
     ensures within { IfOk result (λ n. (least ≤ n) × (n ≤ most)) }
 {
     let z = integer_in(value, at)?;
     match within(natural(z), least, most) {
         Some(number) => Ok(number),
-        None => Err(Refusal::Bad(ScenarioKind::BadNumber, at)),
+        None => Err(CheckError::Bad(ScenarioKind::BadNumber, at)),
     }
 }
 

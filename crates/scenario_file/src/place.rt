@@ -21,60 +21,60 @@ pub(crate) enum Section {
 
 /// A key of a table, or an item of the list that is its value.
 #[derive(Clone, Copy)]
-pub(crate) struct Place<'k> {
+pub(crate) struct KeyPlace<'k> {
     section: Section,
     key: &'k str,
     item: Option<usize>,
 }
 
-/// The refusal of a check. Its path is made only when it is told.
+/// Why a check fails. Its path is made only when it is told.
 #[derive(Clone, Copy)]
-pub(crate) enum Refusal<'k> {
+pub(crate) enum CheckError<'k> {
     /// The check failed at this place.
-    Bad(ScenarioKind, Place<'k>),
+    Bad(ScenarioKind, KeyPlace<'k>),
     /// Memory ran out.
     Memory,
 }
 
-impl From<AllocError> for Refusal<'_> {
-    ghost use Rattle.scenario_file.specs.declared.place.Refusal.TheVariants.{Memory};
+impl From<AllocError> for CheckError<'_> {
+    ghost use Rattle.scenario_file.specs.declared.place.CheckError.TheVariants.{Memory};
 
     ghost from_gives = { λ _ e. e ≡ Memory };
 
     fn from(_refused: AllocError) -> Self {
-        Refusal::Memory
+        CheckError::Memory
     }
 }
 
-impl<T: Drop> From<AllocFailed<T>> for Refusal<'_> {
-    ghost use Rattle.scenario_file.specs.declared.place.Refusal.TheVariants.{Memory};
+impl<T: Drop> From<AllocFailed<T>> for CheckError<'_> {
+    ghost use Rattle.scenario_file.specs.declared.place.CheckError.TheVariants.{Memory};
 
     ghost from_gives = { λ _ e. e ≡ Memory };
 
     fn from(_refused: AllocFailed<T>) -> Self {
-        Refusal::Memory
+        CheckError::Memory
     }
 }
 
-impl From<vchan_io::Memory> for Refusal<'_> {
-    ghost use Rattle.scenario_file.specs.declared.place.Refusal.TheVariants.{Memory};
+impl From<vchan_io::Memory> for CheckError<'_> {
+    ghost use Rattle.scenario_file.specs.declared.place.CheckError.TheVariants.{Memory};
 
     ghost from_gives = { λ _ e. e ≡ Memory };
 
     fn from(_refused: vchan_io::Memory) -> Self {
-        Refusal::Memory
+        CheckError::Memory
     }
 }
 
-impl<'k> Place<'k> {
+impl<'k> KeyPlace<'k> {
     ghost use Rattle.std.specs.Prelude.{None, Some};
     ghost use Rattle.scenario_file.specs.Readings.{place_path};
 
     /// Returns the place of a key.
-    pub(crate) fn key(section: Section, key: &'k str) -> Place<'k>
+    pub(crate) fn key(section: Section, key: &'k str) -> KeyPlace<'k>
         ensures { result ≡ record { section = section; key = key.entry; item = None } }
     {
-        Place {
+        KeyPlace {
             section,
             key,
             item: None,
@@ -82,10 +82,10 @@ impl<'k> Place<'k> {
     }
 
     /// Returns the place of an item of the list at a key, from 1 on.
-    pub(crate) fn item(section: Section, key: &'k str, number: usize) -> Place<'k>
+    pub(crate) fn item(section: Section, key: &'k str, number: usize) -> KeyPlace<'k>
         ensures { result ≡ record { section = section; key = key.entry; item = Some number } }
     {
-        Place {
+        KeyPlace {
             section,
             key,
             item: Some(number),
@@ -118,7 +118,7 @@ fn section_path(alloc: Global, section: Section) -> Result<String, AllocError>
     }
 }
 
-impl Refusal<'_> {
+impl CheckError<'_> {
     ghost use Rattle.scenario_file.specs.Readings.{Tells};
 
     /// Returns the error of the file, with the path of the place.
@@ -126,11 +126,11 @@ impl Refusal<'_> {
         ensures { Tells result self.entry }
     {
         match self {
-            Refusal::Bad(kind, place) => match place.path(alloc) {
+            CheckError::Bad(kind, place) => match place.path(alloc) {
                 Ok(at) => ScenarioError::Bad { kind, at },
                 Err(_) => ScenarioError::Memory,
             },
-            Refusal::Memory => ScenarioError::Memory,
+            CheckError::Memory => ScenarioError::Memory,
         }
     }
 }

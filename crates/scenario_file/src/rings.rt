@@ -10,7 +10,7 @@ ghost use Rattle.scenario_file.specs.Tables.{orders_at, orders_from, orders_in, 
 use crate::error::ScenarioKind;
 use crate::generator::default_orders;
 use crate::keys::{check_keys, integer_in, list_in, member, natural, number_at, table_in};
-use crate::place::{Place, Refusal, Section};
+use crate::place::{CheckError, KeyPlace, Section};
 use ring_words::{Orders, check_orders};
 use toml::{Table, Value};
 
@@ -26,7 +26,7 @@ pub(crate) struct Rings {
 }
 
 /// Reads the table `rings` of the file, if it has one.
-pub(crate) fn read_rings(top: &Table) -> Result<Rings, Refusal<'_>>
+pub(crate) fn read_rings(top: &Table) -> Result<Rings, CheckError<'_>>
     ensures { Gives rings_seen result (rings_of (table_view top.now)) }
 {
     match member(top, "rings") {
@@ -40,10 +40,10 @@ pub(crate) fn read_rings(top: &Table) -> Result<Rings, Refusal<'_>>
 }
 
 /// Reads a value as the table `rings`.
-fn read_table(value: &Value) -> Result<Rings, Refusal<'_>>
+fn read_table(value: &Value) -> Result<Rings, CheckError<'_>>
     ensures { Gives rings_seen result (rings_in (view value.now)) }
 {
-    let table = table_in(value, Place::key(Section::Top, "rings"))?;
+    let table = table_in(value, KeyPlace::key(Section::Top, "rings"))?;
     check_keys(table, Section::Rings, false)?;
     Ok(Rings {
         control: orders_at(table, "control")?,
@@ -53,7 +53,7 @@ fn read_table(value: &Value) -> Result<Rings, Refusal<'_>>
 }
 
 /// Returns the orders of a key: those of its list of two, or 10 and 11 if it has no value.
-fn orders_at<'t>(table: &'t Table, key: &'static str) -> Result<Orders, Refusal<'t>>
+fn orders_at<'t>(table: &'t Table, key: &'static str) -> Result<Orders, CheckError<'t>>
     ensures { Gives order_numbers result (orders_at key.now (table_view table.now)) }
 {
     match member(table, key) {
@@ -63,14 +63,14 @@ fn orders_at<'t>(table: &'t Table, key: &'static str) -> Result<Orders, Refusal<
 }
 
 /// Returns the orders of a list of two.
-fn orders_in<'t>(value: &'t Value, key: &'static str) -> Result<Orders, Refusal<'t>>
+fn orders_in<'t>(value: &'t Value, key: &'static str) -> Result<Orders, CheckError<'t>>
     ensures { Gives order_numbers result (orders_in key.now (view value.now)) }
 {
-    let at = Place::key(Section::Rings, key);
-    let bad = Refusal::Bad(ScenarioKind::BadOrders, at);
+    let at = KeyPlace::key(Section::Rings, key);
+    let bad = CheckError::Bad(ScenarioKind::BadOrders, at);
     let (left, right) = two_of(list_in(value, at)?).ok_or(bad)?;
-    let left = integer_in(left, Place::item(Section::Rings, key, 1))?;
-    let right = integer_in(right, Place::item(Section::Rings, key, 2))?;
+    let left = integer_in(left, KeyPlace::item(Section::Rings, key, 1))?;
+    let right = integer_in(right, KeyPlace::item(Section::Rings, key, 2))?;
     orders_from(natural(left), natural(right)).ok_or(bad)
 }
 

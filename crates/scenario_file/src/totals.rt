@@ -9,7 +9,7 @@ ghost use Rattle.scenario_file.specs.Tables.{within_totals, written_with};
 
 use crate::error::ScenarioKind;
 use crate::lookup::place_named;
-use crate::place::{Place, Refusal, Section};
+use crate::place::{CheckError, KeyPlace, Section};
 use crate::rings::Rings;
 use crate::scenario::{CallPlan, Domain};
 use ring_words::{Layout, Orders};
@@ -26,7 +26,7 @@ pub(crate) fn check_totals<'t>(
     rings: Rings,
     domains: &[Domain],
     calls: &[CallPlan],
-) -> Result<(), Refusal<'t>>
+) -> Result<(), CheckError<'t>>
     requires few_domains { length domains.now ≤ 32 }
     requires few_calls { length calls.now ≤ 4096 }
     requires domains_fit { All DomainFits domains.now }
@@ -37,9 +37,9 @@ pub(crate) fn check_totals<'t>(
     ensures words { OnOk result (words_laid (word_count rings.control) (word_count rings.payload) domains.now calls.now ≤ 16777216) }
 {
     if stdin_total(domains, calls) > MOST_STDIN_TOTAL {
-        Err(Refusal::Bad(ScenarioKind::TooMany, Place::key(Section::Top, "stdin")))
+        Err(CheckError::Bad(ScenarioKind::TooMany, KeyPlace::key(Section::Top, "stdin")))
     } else if words_laid(rings.control, rings.payload, domains, calls) > MOST_WORDS {
-        Err(Refusal::Bad(ScenarioKind::TooMany, Place::key(Section::Top, "words")))
+        Err(CheckError::Bad(ScenarioKind::TooMany, KeyPlace::key(Section::Top, "words")))
     } else {
         Ok(())
     }

@@ -8,7 +8,7 @@ use Rattle.scenario_file.proofs.scenario.Scenario.TheSendSync as scenario
 use Rattle.vchan_rule.proofs.Sent.{end_send}
 use Rattle.run_pages.specs.contracts.deal.Hand as hand
 use Rattle.domain_task.proofs.Sent.{data_end_send, retired_end_send, task_send}
-use Rattle.scenario_run.specs.contracts.run_task.Stage as stage
+use Rattle.scenario_run.specs.contracts.run_task.TaskStage as stage
 use Rattle.scenario_run.specs.contracts.run_task.RunTask as run_task
 use Rattle.scenario_run.specs.contracts.run_task.RunTask.TheInside as inside
 

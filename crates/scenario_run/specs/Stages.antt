@@ -8,8 +8,8 @@ use Rattle.task_duties.specs.declared.ends.RetiredEnd.{RetiredEnd}
 use Rattle.task_duties.specs.TaskOwes.{TaskGiven, broker_given}
 use Rattle.domain_task.specs.Given.{given_of}
 use Rattle.run_laws.specs.Laid.{awaited_by, hub_of}
-use Rattle.scenario_run.specs.declared.run_task.Stage.{Stage}
-use Rattle.scenario_run.specs.declared.run_task.Stage.TheVariants.{Broker, Domain, Made}
+use Rattle.scenario_run.specs.declared.run_task.TaskStage.{TaskStage}
+use Rattle.scenario_run.specs.declared.run_task.TaskStage.TheVariants.{Broker, Domain, Made}
 use Rattle.scenario_run.specs.Tasks.{AreControlsOf, IsHandOf, domain_given}
 
 -- an empty list has room for so many ends
@@ -17,13 +17,13 @@ abbrev pub HasRoom : ℕ → Vec RetiredEnd Global → Type 0
 HasRoom count retired = (retired.items ≡ []) × (count ≤ vec_capacity retired)
 
 -- the task may be made from these ends, or they may retire
-abbrev pub MayMake : Scenario → Stage → Type 0
+abbrev pub MayMake : Scenario → TaskStage → Type 0
 MayMake s (Broker controls retired) = AreControlsOf s controls.items × HasRoom (length controls.items) retired
 MayMake s (Domain number hand retired) = ((1 ≤ number) × (number ≤ length s.domains)) × IsHandOf s number hand × HasRoom (length hand.payload.items + 1) retired
 MayMake s (Made task) = Unit {0}
 
 -- what the task is given
-abbrev pub given_at : Scenario → Stage → TaskGiven
+abbrev pub given_at : Scenario → TaskStage → TaskGiven
 given_at s (Broker controls retired) = broker_given (hub_of s) (awaited_by s) (map view controls.items)
 given_at s (Domain number hand retired) = domain_given s number hand
 given_at s (Made task) = given_of task

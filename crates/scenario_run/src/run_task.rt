@@ -15,7 +15,7 @@ use vchan_rule::End;
 
 /// How far a task of a run is. One that wasn't made has room for its ends, so that they retire without memory.
 #[derive(Drop)]
-pub(crate) enum Stage<'p> {
+pub(crate) enum TaskStage<'p> {
     /// The broker's task, with its ends of the control pages, in the order of the domains.
     Broker {
         controls: Vec<End<'p>>,
@@ -41,7 +41,7 @@ pub(crate) struct RunTask<'p, 's> {
     alloc: Global,
     scenario: &'s Scenario,
     no_memory: &'s AtomicBool,
-    stage: Stage<'p>,
+    stage: TaskStage<'p>,
 }
 
 impl<'p, 's> Model for RunTask<'p, 's> {
@@ -55,7 +55,7 @@ impl<'p, 's> Model for RunTask<'p, 's> {
     ghost invariant = { λ t. MayMake t.scenario.now t.stage };
 }
 
-impl<'p> Stage<'p> {
+impl<'p> TaskStage<'p> {
     ghost use Rattle.std.specs.Prelude.{◌≡◌, IfOk, IfErr};
     ghost use Rattle.task_duties.specs.TaskOwes.{TaskOwes, NoMemory};
     ghost use Rattle.task_duties.specs.GivenEnds.{all_retired};
@@ -70,11 +70,11 @@ impl<'p> Stage<'p> {
     {
         is_scenario(scenario);
         match self {
-            Stage::Broker { controls, retired } => match broker(alloc, scenario, controls) {
+            TaskStage::Broker { controls, retired } => match broker(alloc, scenario, controls) {
                 Ok(task) => Ok(task),
                 Err(controls) => Err(retire_controls(controls, retired)),
             },
-            Stage::Domain {
+            TaskStage::Domain {
                 number,
                 hand,
                 retired,
@@ -82,7 +82,7 @@ impl<'p> Stage<'p> {
                 Ok(task) => Ok(task),
                 Err(ends) => Err(retire_hand(number, ends.control, ends.payload, retired)),
             },
-            Stage::Made(task) => Ok(task),
+            TaskStage::Made(task) => Ok(task),
         }
     }
 
@@ -93,13 +93,13 @@ impl<'p> Stage<'p> {
     {
         is_scenario(scenario);
         match self {
-            Stage::Broker { controls, retired } => retire_controls(controls, retired),
-            Stage::Domain {
+            TaskStage::Broker { controls, retired } => retire_controls(controls, retired),
+            TaskStage::Domain {
                 number,
                 hand,
                 retired,
             } => retire_hand(number, hand.control, hand.payload, retired),
-            Stage::Made(task) => task.give_up(),
+            TaskStage::Made(task) => task.give_up(),
         }
     }
 }
@@ -113,7 +113,7 @@ impl<'p, 's> RunTask<'p, 's> {
         alloc: Global,
         scenario: &'s Scenario,
         no_memory: &'s AtomicBool,
-        stage: Stage<'p>,
+        stage: TaskStage<'p>,
     ) -> RunTask<'p, 's>
         requires { MayMake scenario.now stage }
         ensures { result ≡ given_at scenario.now stage.entry }
@@ -149,7 +149,7 @@ impl<'p, 's> PoolTask for RunTask<'p, 's> {
                     alloc,
                     scenario,
                     no_memory,
-                    stage: Stage::Made(task),
+                    stage: TaskStage::Made(task),
                 }),
                 Turn::Done(done) => Turn::Done(done),
             },
@@ -162,8 +162,8 @@ impl<'p, 's> PoolTask for RunTask<'p, 's> {
 
     fn moved(&self) -> bool {
         match &self.stage {
-            Stage::Broker { .. } | Stage::Domain { .. } => true,
-            Stage::Made(task) => task.moved(),
+            TaskStage::Broker { .. } | TaskStage::Domain { .. } => true,
+            TaskStage::Made(task) => task.moved(),
         }
     }
 }

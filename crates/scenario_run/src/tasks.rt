@@ -11,7 +11,7 @@ ghost use Rattle.domain_task.specs.Given.{given_of};
 ghost use Rattle.scenario_run.specs.Tasks.{AreHandsOf, AreControlsOf, AreTasksOf, AreUnmade, IsHandOf, domain_given, awaited_from};
 
 use crate::copies::{calls_from, copy_of_acts, entries_of, names_of};
-use crate::run_task::{RunTask, Stage};
+use crate::run_task::{RunTask, TaskStage};
 use agent_task::AgentTask;
 use broker_task::BrokerTask;
 use call_broker::Broker;
@@ -43,12 +43,12 @@ pub(crate) fn tasks<'p, 's>(
     let Dealt { controls, hands } = dealt;
     let mut tasks = Vec::with_capacity(alloc, hands.len() + 1)?;
     let retired = Vec::with_capacity(alloc, controls.len())?;
-    let broker = Stage::Broker { controls, retired };
+    let broker = TaskStage::Broker { controls, retired };
     tasks.push(RunTask::new(alloc, scenario, no_memory, broker))?;
     let mut number = 1;
     for hand in hands {
         let retired = Vec::with_capacity(alloc, hand.payload.len() + 1)?;
-        let domain = Stage::Domain {
+        let domain = TaskStage::Domain {
             number,
             hand,
             retired,

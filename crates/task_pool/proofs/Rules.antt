@@ -8,9 +8,9 @@ use mathlib.Core.Option.{some, some_injective, some_ne_none}
 use lib.ListN.{get_elem?}
 use Rattle.crossbeam_queue.specs.Fifo.{Pushes, Pops, Forks, Merges, Learns}
 use Rattle.crossbeam_queue.proofs.Lists.{at_set, at_snoc}
-use Rattle.task_pool.specs.declared.queue.Hand.{Hand}
+use Rattle.task_pool.specs.declared.queue.Holding.{Holding}
 use Rattle.task_pool.specs.declared.waiting.Waiting.{Waiting}
-use Rattle.task_pool.specs.Hand.{hand, all_parts}
+use Rattle.task_pool.specs.Holding.{holding, all_parts}
 use Rattle.task_pool.specs.Rule.{below, kept_weight, IsLaid, Fits, Owing, Holds, Takes, Lays, Gives, Counts}
 use Rattle.task_pool.proofs.Totals.{total_append, total_set, term_le, two_terms_le, total_alone, total_ones, below_ones}
 
@@ -21,39 +21,39 @@ laid_last (x ∷ laid) t zero e = absurd (omega arith)
 laid_last (x ∷ laid) t (suc i) e = laid_last laid t i (omega arith)
 
 module _ {T D : Type 0} (owes : T → D → Type 0) where
-  hands_set : (laid : List T) (views : List (Hand T)) (port : ℕ) (w : Hand T) → Fits laid w → ((j : ℕ) (u : Hand T) → j ≢ port → get_elem? views j ≡ some u → Fits laid u)
-      → (j : ℕ) (u : Hand T) → get_elem? (set views port w) j ≡ some u → Fits laid u
+  hands_set : (laid : List T) (views : List (Holding T)) (port : ℕ) (w : Holding T) → Fits laid w → ((j : ℕ) (u : Holding T) → j ≢ port → get_elem? views j ≡ some u → Fits laid u)
+      → (j : ℕ) (u : Holding T) → get_elem? (set views port w) j ≡ some u → Fits laid u
   hands_set laid views port w mine others j u e =
       ⊎_elim (λ (x : (j ≡ port) × (w ≡ u)). subst (Fits laid) x.1 mine) (λ (x : (j ≢ port) × (get_elem? views j ≡ some u)). others j u x.0 x.1) (at_set views port j w u e)
 
-  begins_at : (pass : ℕ) (v : Hand T) → get_elem? (hand all_parts [] [] ∷ []) pass ≡ some v → Fits [] v
+  begins_at : (pass : ℕ) (v : Holding T) → get_elem? (holding all_parts [] [] ∷ []) pass ≡ some v → Fits [] v
   begins_at zero v at = subst (Fits []) (some_injective _ v at) (record { knows = λ _. refl; idle = λ none. absurd (omega arith); placed = tt })
   begins_at (suc pass) v at = absurd (some_ne_none v (sym at))
 
-  pub begins : Holds owes [] (hand all_parts [] [] ∷ [])
+  pub begins : Holds owes [] (holding all_parts [] [] ∷ [])
   begins = record { laid = []; parts = refl; once = λ weight. refl; waiting = tt; hands = begins_at }
 
   -- a pass with a part keeps fewer places than were laid, while one waits
-  room : (v : Hand T) (x : Waiting T) (items : List (Waiting T)) (views : List (Hand T)) (port : ℕ) → 0 < v.parts → get_elem? views port ≡ some v
+  room : (v : Holding T) (x : Waiting T) (items : List (Waiting T)) (views : List (Holding T)) (port : ℕ) → 0 < v.parts → get_elem? views port ≡ some v
       → (h : Holds owes (x ∷ items) views) → length v.kept < length v.laid
   room v x items views port some_part at h =
       let same : length v.laid ≡ length h.laid = ap length ((h.hands port v at).knows some_part) in
       let sum = h.once (λ _. 1) in
-      let mine = term_le (λ (u : Hand T). kept_weight (λ _. 1) u.kept) views port v at in
+      let mine = term_le (λ (u : Holding T). kept_weight (λ _. 1) u.kept) views port v at in
       let kept : kept_weight (λ _. 1) v.kept ≡ length v.kept = total_ones v.kept in
       omega (arith, below_ones (length h.laid))
 
-  pub takes : (port : ℕ) (v : Hand T) → 0 < v.parts → Pops (Holds owes) port v (Takes owes v)
+  pub takes : (port : ℕ) (v : Holding T) → 0 < v.parts → Pops (Holds owes) port v (Takes owes v)
   takes port v some_part x items views h at =
       let mine = h.hands port v at in
       let first = h.waiting.0 in
-      let w : Hand T = hand v.parts v.laid (v.kept ++ (x.place, first.first) ∷ []) in (
+      let w : Holding T = holding v.parts v.laid (v.kept ++ (x.place, first.first) ∷ []) in (
         w,
         record {
           laid = h.laid;
-          parts = (let e = total_set (λ (u : Hand T). u.parts) views port v w at in let p = h.parts in omega arith);
+          parts = (let e = total_set (λ (u : Holding T). u.parts) views port v w at in let p = h.parts in omega arith);
           once = λ weight.
-              let e = total_set (λ (u : Hand T). kept_weight weight u.kept) views port v w at in
+              let e = total_set (λ (u : Holding T). kept_weight weight u.kept) views port v w at in
               let p = h.once weight in
               omega (arith, total_append (λ (e : ℕ × T). weight e.0) v.kept ((x.place, first.first) ∷ []));
           waiting = h.waiting.1;
@@ -64,7 +64,7 @@ module _ {T D : Type 0} (owes : T → D → Type 0) where
         record { first = first.first; keeps = refl; at = ap (λ l. slice_get l x.place) (mine.knows some_part) ∙ first.at; pays = first.pays; room = room v x items views port some_part at h },
       )
 
-  pub gives : (n port : ℕ) (v : Hand T) (x : Waiting T) (rest : List (ℕ × T)) (first : T) → 0 < v.parts → v.kept ≡ rest ++ (x.place, first) ∷ []
+  pub gives : (n port : ℕ) (v : Holding T) (x : Waiting T) (rest : List (ℕ × T)) (first : T) → 0 < v.parts → v.kept ≡ rest ++ (x.place, first) ∷ []
       → ((done : D) → owes x.task done → owes first done) → Pushes (Holds owes) n port v x (Gives v x)
   gives n port v x rest first some_part is pays items views _ h at =
       let mine = h.hands port v at in
@@ -72,13 +72,13 @@ module _ {T D : Type 0} (owes : T → D → Type 0) where
       let less : length v.kept - 1 ≡ length rest = omega arith in
       let front : take (length v.kept - 1) v.kept ≡ rest = ap (λ k. take k v.kept) less ∙ (ap (λ l. take (length rest) l) is ∙ take-append_seam rest ((x.place, first) ∷ [])) in
       let placed : AllByRecursion (IsLaid h.laid) (rest ++ (x.place, first) ∷ []) = subst (AllByRecursion (IsLaid h.laid)) is mine.placed in
-      let w : Hand T = hand v.parts v.laid (take (length v.kept - 1) v.kept) in (
+      let w : Holding T = holding v.parts v.laid (take (length v.kept - 1) v.kept) in (
         w,
         record {
           laid = h.laid;
-          parts = (let e = total_set (λ (u : Hand T). u.parts) views port v w at in let p = h.parts in omega arith);
+          parts = (let e = total_set (λ (u : Holding T). u.parts) views port v w at in let p = h.parts in omega arith);
           once = λ weight.
-              let e = total_set (λ (u : Hand T). kept_weight weight u.kept) views port v w at in
+              let e = total_set (λ (u : Holding T). kept_weight weight u.kept) views port v w at in
               let p = h.once weight in
               let before : kept_weight weight v.kept ≡ kept_weight weight rest + weight x.place =
               ap (kept_weight weight) is ∙ (total_append (λ (e : ℕ × T). weight e.0) rest ((x.place, first) ∷ []) ∙ ap (λ k. kept_weight weight rest + k) (omega arith)) in
@@ -97,19 +97,19 @@ module _ {T D : Type 0} (owes : T → D → Type 0) where
         refl,
       )
 
-  pub lays : (n port : ℕ) (v : Hand T) (x : Waiting T) → v.parts ≡ all_parts → x.place ≡ length v.laid → Pushes (Holds owes) n port v x (Lays v x)
+  pub lays : (n port : ℕ) (v : Holding T) (x : Waiting T) → v.parts ≡ all_parts → x.place ≡ length v.laid → Pushes (Holds owes) n port v x (Lays v x)
   lays n port v x all next items views _ h at =
       let mine = h.hands port v at in
       let same : v.laid ≡ h.laid = mine.knows (omega arith) in
       let longer : List T = v.laid ++ x.task ∷ [] in
       let stays : (i : ℕ) (t : T) → slice_get h.laid i ≡ Some t → slice_get longer i ≡ Some t = λ i t there. get_front v.laid (x.task ∷ []) i t (ap (λ l. slice_get l i) same ∙ there) in
-      let w : Hand T = hand v.parts longer v.kept in (
+      let w : Holding T = holding v.parts longer v.kept in (
         w,
         record {
           laid = longer;
-          parts = (let e = total_set (λ (u : Hand T). u.parts) views port v w at in let p = h.parts in omega arith);
+          parts = (let e = total_set (λ (u : Holding T). u.parts) views port v w at in let p = h.parts in omega arith);
           once = λ weight.
-              let e = total_set (λ (u : Hand T). kept_weight weight u.kept) views port v w at in
+              let e = total_set (λ (u : Holding T). kept_weight weight u.kept) views port v w at in
               let p = h.once weight in
               let size : below weight (length longer) ≡ below weight (length h.laid) + weight x.place =
               ap (below weight) (length-append v.laid (x.task ∷ []) ∙ add-one (length v.laid)) ∙ (ap (λ k. below weight k + weight (length v.laid)) (ap length same) ∙ ap (λ k. below weight (length h.laid) + weight k) (sym next)) in
@@ -120,7 +120,7 @@ module _ {T D : Type 0} (owes : T → D → Type 0) where
           hands = hands_set longer views port w
               (record { knows = λ _. refl; idle = λ none. absurd (omega arith); placed = each_weaker (IsLaid h.laid) (IsLaid longer) (λ e there. stays e.0 e.1 there) v.kept mine.placed })
               (λ j u other there.
-              let le = two_terms_le (λ (u : Hand T). u.parts) views port j v u at there other in
+              let le = two_terms_le (λ (u : Holding T). u.parts) views port j v u at there other in
               let p = h.parts in
               let none : u.parts ≡ 0 = omega arith in
               record {
@@ -132,39 +132,39 @@ module _ {T D : Type 0} (owes : T → D → Type 0) where
         refl,
       )
 
-  pub forks : (port : ℕ) (v : Hand T) → 1 < v.parts → Forks (Holds owes) port v (hand (v.parts - 1) v.laid v.kept) (hand 1 v.laid [])
+  pub forks : (port : ℕ) (v : Holding T) → 1 < v.parts → Forks (Holds owes) port v (holding (v.parts - 1) v.laid v.kept) (holding 1 v.laid [])
   forks port v parts items views h at =
       let mine = h.hands port v at in
-      let left : Hand T = hand (v.parts - 1) v.laid v.kept in
-      let right : Hand T = hand 1 v.laid [] in
+      let left : Holding T = holding (v.parts - 1) v.laid v.kept in
+      let right : Holding T = holding 1 v.laid [] in
       let others = hands_set h.laid views port left (record { knows = λ _. mine.knows (omega arith); idle = λ none. absurd (omega arith); placed = mine.placed }) (λ j u other there. h.hands j u there) in
       record {
         laid = h.laid;
-        parts = (let e = total_set (λ (u : Hand T). u.parts) views port v left at in let p = h.parts in omega (arith, total_append (λ (u : Hand T). u.parts) (set views port left) (right ∷ [])));
+        parts = (let e = total_set (λ (u : Holding T). u.parts) views port v left at in let p = h.parts in omega (arith, total_append (λ (u : Holding T). u.parts) (set views port left) (right ∷ [])));
         once = λ weight.
-            let e = total_set (λ (u : Hand T). kept_weight weight u.kept) views port v left at in
+            let e = total_set (λ (u : Holding T). kept_weight weight u.kept) views port v left at in
             let p = h.once weight in
-            omega (arith, total_append (λ (u : Hand T). kept_weight weight u.kept) (set views port left) (right ∷ []));
+            omega (arith, total_append (λ (u : Holding T). kept_weight weight u.kept) (set views port left) (right ∷ []));
         waiting = h.waiting;
         hands = λ j u there. ⊎_elim (λ (old : get_elem? (set views port left) j ≡ some u). others j u old)
             (λ (is : right ≡ u). subst (Fits h.laid) is (record { knows = λ _. mine.knows (omega arith); idle = λ none. refl; placed = tt }))
             (at_snoc (set views port left) right u j there);
       }
 
-  pub merges : (port : ℕ) (v : Hand T) (other : ℕ) (u : Hand T) → 0 < v.parts → 0 < u.parts
-      → Merges (Holds owes) port v other u (hand (v.parts + u.parts) v.laid (v.kept ++ u.kept)) (hand 0 [] [])
+  pub merges : (port : ℕ) (v : Holding T) (other : ℕ) (u : Holding T) → 0 < v.parts → 0 < u.parts
+      → Merges (Holds owes) port v other u (holding (v.parts + u.parts) v.laid (v.kept ++ u.kept)) (holding 0 [] [])
   merges port v other u some_part part items views h at apart at' =
       let mine = h.hands port v at in
-      let both : Hand T = hand (v.parts + u.parts) v.laid (v.kept ++ u.kept) in
-      let spent : Hand T = hand 0 [] [] in
+      let both : Holding T = holding (v.parts + u.parts) v.laid (v.kept ++ u.kept) in
+      let spent : Holding T = holding 0 [] [] in
       let was : get_elem? views other ≡ some u = ⊎_elim (λ (x : (other ≡ port) × (both ≡ u)). absurd (apart x.0)) (λ (x : (other ≢ port) × (get_elem? views other ≡ some u)). x.1) (at_set views port other both u at') in
       let theirs = h.hands other u was in
       record {
         laid = h.laid;
-        parts = (let e = total_set (λ (u : Hand T). u.parts) views port v both at in let d = total_set (λ (u : Hand T). u.parts) (set views port both) other u spent at' in let p = h.parts in omega arith);
+        parts = (let e = total_set (λ (u : Holding T). u.parts) views port v both at in let d = total_set (λ (u : Holding T). u.parts) (set views port both) other u spent at' in let p = h.parts in omega arith);
         once = λ weight.
-            let e = total_set (λ (u : Hand T). kept_weight weight u.kept) views port v both at in
-            let d = total_set (λ (u : Hand T). kept_weight weight u.kept) (set views port both) other u spent at' in
+            let e = total_set (λ (u : Holding T). kept_weight weight u.kept) views port v both at in
+            let d = total_set (λ (u : Holding T). kept_weight weight u.kept) (set views port both) other u spent at' in
             let p = h.once weight in
             omega (arith, total_append (λ (e : ℕ × T). weight e.0) v.kept u.kept);
         waiting = h.waiting;
@@ -174,23 +174,23 @@ module _ {T D : Type 0} (owes : T → D → Type 0) where
             (λ i x _ at. h.hands i x at) j y there);
       }
 
-  pub counts : (port : ℕ) (v : Hand T) → Learns (Holds owes) port v (Counts v)
+  pub counts : (port : ℕ) (v : Holding T) → Learns (Holds owes) port v (Counts v)
   counts port v items views h at all weight =
       let mine = h.hands port v at in
       let same : length v.laid ≡ length h.laid = ap length (mine.knows (omega arith)) in
-      let alone = total_alone (λ (u : Hand T). kept_weight weight u.kept) (λ (u : Hand T). u.parts) views port v
+      let alone = total_alone (λ (u : Holding T). kept_weight weight u.kept) (λ (u : Holding T). u.parts) views port v
       (λ j u there none. ap (kept_weight weight) ((h.hands j u there).idle none)) at (h.parts ∙ sym all) in
       let p = h.once weight in
       let size : below weight (length v.laid) ≡ below weight (length h.laid) = ap (below weight) same in
       omega arith
 
 -- a pass with all parts that keeps nothing, and laid fewer tasks than the queue has room for, never finds it full
-pub never_full : {T : Type 0} (v : Hand T) (items : List (Waiting T)) (room : ℕ) → v.parts ≡ all_parts → v.kept ≡ [] → length items ≡ room → Counts v items → length v.laid < room → ⊥
+pub never_full : {T : Type 0} (v : Holding T) (items : List (Waiting T)) (room : ℕ) → v.parts ≡ all_parts → v.kept ≡ [] → length items ≡ room → Counts v items → length v.laid < room → ⊥
 never_full v items room all none full counted short =
     let p = counted all (λ _. 1) in
     let k : kept_weight (λ _. 1) v.kept ≡ 0 = ap (kept_weight (λ _. 1)) none in
     omega (arith, total_ones items, below_ones (length v.laid))
 
 -- a pass that takes or gives keeps its parts
-pub still_part : {T : Type 0} (parts : ℕ) (w : Hand T) (laid : List T) (kept : List (ℕ × T)) → w ≡ hand parts laid kept → 0 < parts → 0 < w.parts
-still_part parts w laid kept is part = let e : w.parts ≡ parts = ap (λ (y : Hand _). y.parts) is in omega arith
+pub still_part : {T : Type 0} (parts : ℕ) (w : Holding T) (laid : List T) (kept : List (ℕ × T)) → w ≡ holding parts laid kept → 0 < parts → 0 < w.parts
+still_part parts w laid kept is part = let e : w.parts ≡ parts = ap (λ (y : Holding _). y.parts) is in omega arith

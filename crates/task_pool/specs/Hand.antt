@@ -1,11 +1,11 @@
 -- What a pass of the queue knows, as a record of its three parts.
 use Rattle.std.specs.Prelude.{ℕ, List}
-use Rattle.task_pool.specs.declared.queue.Hand.{Hand}
+use Rattle.task_pool.specs.declared.queue.Holding.{Holding}
 
 -- all parts of the right to know every pass
 abbrev pub all_parts : ℕ
 all_parts = 1024
 
 -- a pass with this many parts, to which these tasks were laid, and which keeps these places with the tasks first laid there
-abbrev pub hand : {T : Type 0} → ℕ → List T → List (ℕ × T) → Hand T
-hand parts laid kept = record { parts = parts; laid = laid; kept = kept }
+abbrev pub holding : {T : Type 0} → ℕ → List T → List (ℕ × T) → Holding T
+holding parts laid kept = record { parts = parts; laid = laid; kept = kept }

@@ -1,4 +1,4 @@
 pub mod Owes
-pub mod Hand
+pub mod Holding
 pub mod Rule
 pub mod Results

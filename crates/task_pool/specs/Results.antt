@@ -2,11 +2,11 @@
 use Rattle.std.specs.Prelude.{◌≡◌, ℕ, ◌<◌, List, [], ◌∷◌, ◌++◌, length, slice_get, Option, Some}
 use Rattle.std.specs.List.{AllByRecursion, AllZip}
 use Rattle.crossbeam_queue.specs.Fifo.{Held}
-use Rattle.task_pool.specs.declared.queue.Hand.{Hand}
+use Rattle.task_pool.specs.declared.queue.Holding.{Holding}
 use Rattle.task_pool.specs.declared.waiting.Finished.{Finished}
 use Rattle.task_pool.specs.declared.waiting.Tried.{Tried}
 use Rattle.task_pool.specs.declared.waiting.Tried.TheVariants.{Idle, Again, Over}
-use Rattle.task_pool.specs.Hand.{hand}
+use Rattle.task_pool.specs.Holding.{holding}
 use Rattle.task_pool.specs.Rule.{IsLaid, Counts, below, kept_weight}
 
 module _ {T D : Type 0} (owes : T → D → Type 0) where
@@ -15,20 +15,20 @@ module _ {T D : Type 0} (owes : T → D → Type 0) where
   IsPaid laid e f = (f.place ≡ e.0) × IsLaid laid e × owes e.1 f.done
 
   --   what a turn that brought a task to its end tells: its place is kept, and the result was owed there
-  pub record Ends (v : Hand T) (f : Finished D) (w : Hand T) : Type 0 where
+  pub record Ends (v : Holding T) (f : Finished D) (w : Holding T) : Type 0 where
     pub first : T
-    pub keeps : w ≡ hand v.parts v.laid (v.kept ++ (f.place, first) ∷ [])
+    pub keeps : w ≡ holding v.parts v.laid (v.kept ++ (f.place, first) ∷ [])
     pub paid : IsPaid v.laid (f.place, first) f
     pub room : length v.kept < length v.laid
 
   -- what a try to make a turn tells: no task waited at one moment; or one made a turn and waits again; or one is done
-  abbrev pub Tries : Hand T → Tried D → Hand T → Type 0
+  abbrev pub Tries : Holding T → Tried D → Holding T → Type 0
   Tries v Idle w = (w ≡ v) × Held 0 (Counts v)
   Tries v (Again _) w = w ≡ v
   Tries v (Over f) w = Ends v f w
 
   --   a pass with one part, to which these tasks were laid, keeps just the places of these results
-  pub record Keeps (laid : List T) (finished : List (Finished D)) (v : Hand T) : Type 0 where
+  pub record Keeps (laid : List T) (finished : List (Finished D)) (v : Holding T) : Type 0 where
     pub part : v.parts ≡ 1
     pub knows : v.laid ≡ laid
     pub paid : AllZip (IsPaid laid) v.kept finished

@@ -3,9 +3,9 @@ use Rattle.std.specs.Prelude.{◌≡◌, ℕ, zero, suc, ◌+◌, ◌-◌, ◌<�
 use Rattle.std.specs.List.{AllByRecursion}
 use mathlib.Core.Option.{some}
 use lib.ListN.{get_elem?}
-use Rattle.task_pool.specs.declared.queue.Hand.{Hand}
+use Rattle.task_pool.specs.declared.queue.Holding.{Holding}
 use Rattle.task_pool.specs.declared.waiting.Waiting.{Waiting}
-use Rattle.task_pool.specs.Hand.{hand, all_parts}
+use Rattle.task_pool.specs.Holding.{holding, all_parts}
 
 -- f of each element, added up
 abbrev pub total : {X : Type 0} → (X → ℕ) → List X → ℕ
@@ -29,7 +29,7 @@ abbrev pub IsLaid : {T : Type 0} → List T → (ℕ × T) → Type 0
 IsLaid laid e = slice_get laid e.0 ≡ Some e.1
 
 -- what a pass knows fits the tasks laid: with a part it knows them all, without one it keeps nothing, and it keeps places with the tasks laid there
-pub record Fits {T : Type 0} (laid : List T) (v : Hand T) : Type 0 where
+pub record Fits {T : Type 0} (laid : List T) (v : Holding T) : Type 0 where
   pub knows : 0 < v.parts → v.laid ≡ laid
   pub idle : v.parts ≡ 0 → v.kept ≡ []
   pub placed : AllByRecursion (IsLaid laid) v.kept
@@ -43,29 +43,29 @@ module _ {T D : Type 0} (owes : T → D → Type 0) where
 
   -- Some tasks were laid. Each of their places waits or is kept by a pass, once, however the places are weighed,
   -- and each waiting task owes no more than the one first laid at its place.
-  pub record Holds (items : List (Waiting T)) (views : List (Hand T)) : Type 0 where
+  pub record Holds (items : List (Waiting T)) (views : List (Holding T)) : Type 0 where
     pub laid : List T
-    pub parts : total (λ (v : Hand T). v.parts) views ≡ all_parts
-    pub once : (weight : ℕ → ℕ) → total (λ (v : Hand T). kept_weight weight v.kept) views + waiting_weight weight items ≡ below weight (length laid)
+    pub parts : total (λ (v : Holding T). v.parts) views ≡ all_parts
+    pub once : (weight : ℕ → ℕ) → total (λ (v : Holding T). kept_weight weight v.kept) views + waiting_weight weight items ≡ below weight (length laid)
     pub waiting : AllByRecursion (Owing laid) items
-    pub hands : (pass : ℕ) (v : Hand T) → get_elem? views pass ≡ some v → Fits laid v
+    pub hands : (pass : ℕ) (v : Holding T) → get_elem? views pass ≡ some v → Fits laid v
 
   -- what a pop tells: the place is kept, with the task first laid there, and there was room for it
-  pub record Takes (v : Hand T) (x : Waiting T) (w : Hand T) : Type 0 where
+  pub record Takes (v : Holding T) (x : Waiting T) (w : Holding T) : Type 0 where
     pub first : T
-    pub keeps : w ≡ hand v.parts v.laid (v.kept ++ (x.place, first) ∷ [])
+    pub keeps : w ≡ holding v.parts v.laid (v.kept ++ (x.place, first) ∷ [])
     pub at : slice_get v.laid x.place ≡ Some first
     pub pays : (done : D) → owes x.task done → owes first done
     pub room : length v.kept < length v.laid
 
 -- what a push of one more task tells: it was laid at the next place
-abbrev pub Lays : {T : Type 0} → Hand T → Waiting T → Hand T → Type 0
-Lays v x w = w ≡ hand v.parts (v.laid ++ x.task ∷ []) v.kept
+abbrev pub Lays : {T : Type 0} → Holding T → Waiting T → Holding T → Type 0
+Lays v x w = w ≡ holding v.parts (v.laid ++ x.task ∷ []) v.kept
 
 -- what a push of a task that was taken last tells: its place is kept no longer
-abbrev pub Gives : {T : Type 0} → Hand T → Waiting T → Hand T → Type 0
-Gives v x w = w ≡ hand v.parts v.laid (take (length v.kept - 1) v.kept)
+abbrev pub Gives : {T : Type 0} → Holding T → Waiting T → Holding T → Type 0
+Gives v x w = w ≡ holding v.parts v.laid (take (length v.kept - 1) v.kept)
 
 -- what the pass with all parts learns: each place is kept by it or waits, once
-abbrev pub Counts : {T : Type 0} → Hand T → List (Waiting T) → Type 0
+abbrev pub Counts : {T : Type 0} → Holding T → List (Waiting T) → Type 0
 Counts v items = v.parts ≡ all_parts → (weight : ℕ → ℕ) → kept_weight weight v.kept + waiting_weight weight items ≡ below weight (length v.laid)

@@ -2,7 +2,7 @@
 ghost use Rattle.std.specs.Prelude.{◌≡◌, ◌≤◌, ◌<◌, ◌+◌, ◌-◌, [], ◌++◌, length, vec_len, vec_capacity, IfOk, OnOk, All, Some, None, replicate, slice_set};
 ghost use Rattle.std.specs.List.{AllByRecursion, AllZip};
 ghost use Rattle.crossbeam_queue.specs.Passes.{view, IsPassOf};
-ghost use Rattle.task_pool.specs.Hand.{all_parts};
+ghost use Rattle.task_pool.specs.Holding.{all_parts};
 ghost use Rattle.task_pool.specs.Results.{Keeps, Settled, IsWhole};
 
 use crate::pool::MOST_WORKERS;

@@ -1,7 +1,7 @@
 //! Laying the tasks in the queue.
 ghost use Rattle.std.specs.Prelude.{◌≡◌, ◌<◌, ◌^◌, ◌++◌, [], length, vec_len, IfOk};
 ghost use Rattle.crossbeam_queue.specs.Passes.{view, IsPassOf, ruled_capacity};
-ghost use Rattle.task_pool.specs.Hand.{hand, all_parts};
+ghost use Rattle.task_pool.specs.Holding.{holding, all_parts};
 
 use crate::pool::MOST_WORKERS;
 use crate::queue::{Laying, TaskPass, TaskQueue};
@@ -18,7 +18,7 @@ pub(crate) fn lay_all<T: PoolTask, R: Wait>(
 ) -> Result<(TaskQueue<T>, TaskPass<T>), AllocError>
     requires some { 0 < vec_len tasks }
     requires few { vec_len tasks < 2 ^ 32 }
-    ensures { IfOk result (λ q. IsPassOf q.0 q.1 × (view q.1 ≡ hand all_parts tasks.items [])) }
+    ensures { IfOk result (λ q. IsPassOf q.0 q.1 × (view q.1 ≡ holding all_parts tasks.items [])) }
 {
     // A worker that was stopped while it took a task holds its slot. In a queue of just this size the others would
     // need that slot at their next push, and wait for it.

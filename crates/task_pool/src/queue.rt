@@ -4,7 +4,7 @@
 //! parts, lays the tasks, and cuts off a part for each worker.
 ghost use Rattle.std.specs.Prelude.{◌≡◌, ◌+◌, ◌-◌, [], ◌++◌};
 ghost use Rattle.task_pool.specs.Rule.{Holds, Takes, Lays, Gives, Counts};
-ghost use Rattle.task_pool.specs.Hand.{hand, all_parts};
+ghost use Rattle.task_pool.specs.Holding.{holding, all_parts};
 
 use crate::task::PoolTask;
 use crate::waiting::Waiting;
@@ -14,7 +14,7 @@ use std::collections::LinkedList;
 use std::marker::PhantomData;
 
 /// What a pass of the queue knows. No value of it is made: it exists only in contracts.
-pub(crate) struct Hand<T> {
+pub(crate) struct Holding<T> {
     /// Its parts of the right to know every pass.
     pub parts: u64,
     /// The tasks as they were laid in the queue at first, in the order of their places.
@@ -27,62 +27,62 @@ pub(crate) struct Hand<T> {
 /// The rule of the queue: each place either waits or is kept by one pass, once.
 pub(crate) struct Law<T>(PhantomData<T>);
 
-impl<T: PoolTask> Protocol<Waiting<T>, Hand<T>> for Law<T> {
+impl<T: PoolTask> Protocol<Waiting<T>, Holding<T>> for Law<T> {
     ghost holds = { Holds T.owes };
 
-    ghost first = { hand all_parts [] [] };
+    ghost first = { holding all_parts [] [] };
 }
 
 /// A task is laid at the next place.
 pub(crate) struct Laying<T>(PhantomData<T>);
 
-impl<T: PoolTask> Outcome<Waiting<T>, Hand<T>> for Laying<T> {
+impl<T: PoolTask> Outcome<Waiting<T>, Holding<T>> for Laying<T> {
     ghost then = { Lays };
 }
 
-impl<T: PoolTask> Lesson<Waiting<T>, Hand<T>> for Laying<T> {
+impl<T: PoolTask> Lesson<Waiting<T>, Holding<T>> for Laying<T> {
     ghost fact = { Counts };
 }
 
 /// A task is taken for a turn.
 pub(crate) struct Taking<T>(PhantomData<T>);
 
-impl<T: PoolTask> Outcome<Waiting<T>, Hand<T>> for Taking<T> {
+impl<T: PoolTask> Outcome<Waiting<T>, Holding<T>> for Taking<T> {
     ghost then = { Takes T.owes };
 }
 
-impl<T: PoolTask> Lesson<Waiting<T>, Hand<T>> for Taking<T> {
+impl<T: PoolTask> Lesson<Waiting<T>, Holding<T>> for Taking<T> {
     ghost fact = { Counts };
 }
 
 /// A task is given back after a turn.
 pub(crate) struct Giving<T>(PhantomData<T>);
 
-impl<T: PoolTask> Outcome<Waiting<T>, Hand<T>> for Giving<T> {
+impl<T: PoolTask> Outcome<Waiting<T>, Holding<T>> for Giving<T> {
     ghost then = { Gives };
 }
 
-impl<T: PoolTask> Lesson<Waiting<T>, Hand<T>> for Giving<T> {
+impl<T: PoolTask> Lesson<Waiting<T>, Holding<T>> for Giving<T> {
     ghost fact = { Counts };
 }
 
 /// A part is cut off for a worker, or a worker's pass comes back.
 pub(crate) struct Parting<T>(PhantomData<T>);
 
-impl<T: PoolTask> Split<Hand<T>> for Parting<T> {
-    ghost left = { λ v. hand (v.parts - 1) v.laid v.kept };
+impl<T: PoolTask> Split<Holding<T>> for Parting<T> {
+    ghost left = { λ v. holding (v.parts - 1) v.laid v.kept };
 
-    ghost right = { λ v. hand 1 v.laid [] };
+    ghost right = { λ v. holding 1 v.laid [] };
 }
 
-impl<T: PoolTask> Join<Hand<T>> for Parting<T> {
-    ghost both = { λ v w. hand (v.parts + w.parts) v.laid (v.kept ++ w.kept) };
+impl<T: PoolTask> Join<Holding<T>> for Parting<T> {
+    ghost both = { λ v w. holding (v.parts + w.parts) v.laid (v.kept ++ w.kept) };
 
-    ghost spent = { hand 0 [] [] };
+    ghost spent = { holding 0 [] [] };
 }
 
 /// The queue of the tasks that wait.
-pub(crate) type TaskQueue<T> = RuledArrayQueue<Waiting<T>, Hand<T>, Law<T>>;
+pub(crate) type TaskQueue<T> = RuledArrayQueue<Waiting<T>, Holding<T>, Law<T>>;
 
 /// What a thread holds to use the queue.
-pub(crate) type TaskPass<T> = Pass<Waiting<T>, Hand<T>>;
+pub(crate) type TaskPass<T> = Pass<Waiting<T>, Holding<T>>;

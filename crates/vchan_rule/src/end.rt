@@ -23,7 +23,7 @@ ghost use Rattle.vchan_rule.specs.Ends.{Pays, IsSameEnd, seen};
 use crate::end_seat::{
     CONNECTS, DRAINS, EndSeat, OTHERWISE, READS, RETIRES, SENDS, SIGNALS, WRITES,
 };
-use crate::rule::Place;
+use crate::rule::TableSeat;
 use crate::turned::{Retired, TurnedEnd};
 use crate::words::EndWords;
 use ring_words::{Orders, Role};
@@ -55,7 +55,7 @@ impl<'p> End<'p> {
     /// Makes the end of a seat that has done nothing.
     pub(crate) fn new(
         words: EndWords<'p>,
-        seat: Place,
+        seat: TableSeat,
         role: Role,
         orders: Orders,
         state: EndState,

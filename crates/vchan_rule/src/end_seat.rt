@@ -19,7 +19,7 @@ ghost use Rattle.vchan_rule.specs.Along.{GoesAlong};
 ghost use Rattle.vchan_rule.specs.Ends.{Agrees, Pays, IsSameEnd, end_in, seen};
 ghost use Rattle.vchan_rule.specs.Going.{IsReady, Goes};
 
-use crate::rule::{PageWords, Place};
+use crate::rule::{PageWords, TableSeat};
 use crate::steps::{give_up, perform, put_bytes, take_bytes};
 use crate::turned::{Retired, TurnedEnd};
 use crate::words::EndWords;
@@ -59,7 +59,7 @@ const GOES: u8 = 10;
 /// An end's seat at the table of its page: all of the end except the words and its machine.
 #[derive(Drop)]
 pub(crate) struct EndSeat {
-    seat: Place,
+    seat: TableSeat,
     layout: Layout,
     role: Role,
     retired: bool,
@@ -107,7 +107,7 @@ fn retired_after(op: Op, role: Role, retired: bool) -> bool
 
 impl EndSeat {
     /// Makes the seat of an end that has not retired and is in no call.
-    pub(crate) fn new(seat: Place, role: Role, orders: Orders) -> EndSeat
+    pub(crate) fn new(seat: TableSeat, role: Role, orders: Orders) -> EndSeat
         requires one { seat.me ≡ (One (end_in seat.me.0), []) }
         requires side { ((end_in seat.me.0).orders ≡ orders) × ((end_in seat.me.0).role ≡ role) × ((end_in seat.me.0).retired ≡ false) }
         ensures { (result.page ≡ seat.table_id) × (result.side ≡ end_in seat.me.0) × (result.begun ≡ None) }

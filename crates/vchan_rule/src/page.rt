@@ -9,7 +9,7 @@ ghost use Rattle.vchan_core.specs.OneMachine.Phases.{IsIdle};
 ghost use Rattle.vchan_rule.specs.Seated.{settled_page};
 
 use crate::end::End;
-use crate::rule::{Halves, Opening, PageTable, Place};
+use crate::rule::{Halves, Opening, PageTable, TableSeat};
 use crate::turned::Retired;
 use crate::words::EndWords;
 use ring_words::{Orders, Role, Words};
@@ -81,7 +81,7 @@ impl Model for Page {
 /// A seat of a page whose end has done nothing.
 #[derive(Drop)]
 pub struct IdleSeat {
-    seat: Place,
+    seat: TableSeat,
     role: Role,
     orders: Orders,
     start: u32,
@@ -235,7 +235,7 @@ impl Page {
 /// A page that is done with, and what holds of it. Only `Page::finish` and `HeldPage::settle` make one.
 #[derive(Drop)]
 pub struct Settled {
-    pub(crate) seen: Snapshot<Place>,
+    pub(crate) seen: Snapshot<TableSeat>,
     pub(crate) orders: Orders,
     pub(crate) start: u32,
     pub(crate) server_turned: bool,

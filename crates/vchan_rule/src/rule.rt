@@ -56,7 +56,7 @@ pub type PageWords = Shared<(), View, Opening, PageRule>;
 pub type PageTable = Table<(), View, Opening, PageRule, Global>;
 
 /// A seat at the table of a page.
-pub type Place = Seat<(), View>;
+pub type TableSeat = Seat<(), View>;
 
 /// Which event a step is, for the proof only: the end before it, within its call. A call at `Brand`
 /// picks it.

@@ -13,7 +13,7 @@ ghost use Rattle.vchan_rule.specs.Rule.{last_look};
 ghost use Rattle.vchan_rule.specs.Along.{GoesAlong};
 ghost use Rattle.vchan_rule.specs.declared.rule.View.TheVariants.{One};
 
-use crate::rule::{Event, GivesUp, Makes, PageWords, Place, Strays};
+use crate::rule::{Event, GivesUp, Makes, PageWords, Strays, TableSeat};
 use ring_words::{Layout, WordName, place};
 use std::marker::Brand;
 use std::snapshot::Snapshot;
@@ -23,7 +23,7 @@ use vchan_core::{Call, Machine, Op, Span};
 #[inline(always)]
 pub(crate) fn perform<E: Event>(
     words: &PageWords,
-    seat: &mut Place,
+    seat: &mut TableSeat,
     begun: &Snapshot<Option<Call>>,
     layout: &Layout,
     payload: &[u8],
@@ -60,7 +60,7 @@ pub(crate) fn perform<E: Event>(
 #[inline(always)]
 fn put_byte<E: Event>(
     words: &PageWords,
-    seat: &mut Place,
+    seat: &mut TableSeat,
     layout: &Layout,
     word: WordName,
     number: usize,
@@ -85,7 +85,7 @@ fn put_byte<E: Event>(
 #[inline(always)]
 fn take_byte<E: Event>(
     words: &PageWords,
-    seat: &mut Place,
+    seat: &mut TableSeat,
     layout: &Layout,
     word: WordName,
     number: usize,
@@ -108,7 +108,7 @@ fn take_byte<E: Event>(
 #[inline(always)]
 pub(crate) fn put_bytes(
     words: &PageWords,
-    seat: &mut Place,
+    seat: &mut TableSeat,
     layout: &Layout,
     machine: &Machine,
     span: Span,
@@ -148,7 +148,7 @@ pub(crate) fn put_bytes(
 #[inline(always)]
 pub(crate) fn take_bytes(
     words: &PageWords,
-    seat: &mut Place,
+    seat: &mut TableSeat,
     layout: &Layout,
     machine: &Machine,
     span: Span,
@@ -190,7 +190,7 @@ pub(crate) fn take_bytes(
 /// Turns the end that `E` names over to a hostile user, by a load.
 pub(crate) fn give_up<E: Event>(
     words: &PageWords,
-    seat: &mut Place,
+    seat: &mut TableSeat,
     layout: &Layout,
     word: WordName,
 )
@@ -206,7 +206,7 @@ pub(crate) fn give_up<E: Event>(
 /// Makes a load by an end that was turned.
 pub(crate) fn stray_load<E: Event>(
     words: &PageWords,
-    seat: &mut Place,
+    seat: &mut TableSeat,
     layout: &Layout,
     word: WordName,
 ) -> u64
@@ -222,7 +222,7 @@ pub(crate) fn stray_load<E: Event>(
 /// Makes a store by an end that was turned.
 pub(crate) fn stray_store<E: Event>(
     words: &PageWords,
-    seat: &mut Place,
+    seat: &mut TableSeat,
     layout: &Layout,
     word: WordName,
     value: u64,

@@ -3,7 +3,7 @@ ghost use Rattle.std.specs.Prelude.{◌≡◌, true};
 ghost use Rattle.vchan_protocol.specs.Table.Ends.{peer_pending as peer_pending_of, own_gone as own_gone_of};
 ghost use Rattle.vchan_protocol.specs.Hostile.Turned.{strays, MayPoke};
 
-use crate::rule::Place;
+use crate::rule::TableSeat;
 use crate::steps::{stray_load, stray_store};
 use crate::words::EndWords;
 use ring_words::{Layout, Orders, Role, WordName};
@@ -16,7 +16,7 @@ use vchan_core::words::{own_gone, peer_pending};
 #[derive(Drop)]
 pub struct TurnedEnd<'p> {
     pub(crate) words: EndWords<'p>,
-    pub(crate) seat: Place,
+    pub(crate) seat: TableSeat,
     pub(crate) layout: Layout,
     pub(crate) role: Role,
 }
@@ -102,7 +102,7 @@ impl<'p> TurnedEnd<'p> {
 /// An end that makes no event any more: one that has retired, or that was turned and is done.
 #[derive(Drop)]
 pub struct Retired {
-    pub(crate) seat: Place,
+    pub(crate) seat: TableSeat,
     pub(crate) role: Role,
     pub(crate) turned: bool,
 }

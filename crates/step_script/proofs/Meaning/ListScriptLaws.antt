@@ -28,8 +28,8 @@ use Rattle.vchan_protocol.proofs.Honest.LawfulSteps.{lawful_opened}
 use Rattle.vchan_protocol.proofs.Lists.ListWhole.{tells_lists, follows_lists, may_there}
 use Rattle.vchan_protocol.proofs.History.WholeCallSteps.{lawful_called}
 use Rattle.vchan_protocol.specs.History.Peer.{peer}
-use Rattle.step_script.specs.declared.player.refusal.Refusal.{Refusal}
-use Rattle.step_script.specs.declared.player.refusal.Refusal.TheVariants.{Turned}
+use Rattle.step_script.specs.declared.player.refusal.LineRefusal.{LineRefusal}
+use Rattle.step_script.specs.declared.player.refusal.LineRefusal.TheVariants.{Turned}
 use Rattle.step_script.specs.declared.script.Opening.{Opening}
 use Rattle.step_script.specs.Meaning.Output.{TextLine, answered, text_of}
 use Rattle.step_script.specs.Meaning.Played.{Outcome, bytes_got, call_refusal, finishes_call, followed_by, has_retired, line_done, makes_call, plays, state_refusal, step_lines, unless_refused}
@@ -95,7 +95,7 @@ calm_called core who call payload calm may =
 
 -- ---- which calls an end can make
 
-refused_apart : (why : Refusal) → ◌≡◌ {A = Option Refusal} (Some why) None → ⊥
+refused_apart : (why : LineRefusal) → ◌≡◌ {A = Option LineRefusal} (Some why) None → ⊥
 refused_apart why is = cc
 
 -- a call that nothing refuses is one that the end's state allows
@@ -254,9 +254,9 @@ record Agrees (outcome : Outcome) (told : Told) : Type 0 where
 call_line : (core : Core) (who : Role) (c : StepCall) → IsCalm core → line_done (calls who c) core ≡ unless_refused (list_refusal (end_of (lists_of core) who) c.call) who core (makes_call who c)
 call_line core who c calm =
     ap (λ (inside : Option Begun). followed_by (finishes_call who inside core) (λ behind. unless_refused (call_refusal behind who c.call) who behind (makes_call who c))) (calm.idle who)
-    ∙ ap (λ (why : Option Refusal). unless_refused why who core (makes_call who c)) (refusal_is core who c.call calm)
+    ∙ ap (λ (why : Option LineRefusal). unless_refused why who core (makes_call who c)) (refusal_is core who c.call calm)
 
-call_agrees : (core : Core) (who : Role) (c : StepCall) → IsCalm core → CallFits who c → (why : Option Refusal) → list_refusal (end_of (lists_of core) who) c.call ≡ why →
+call_agrees : (core : Core) (who : Role) (c : StepCall) → IsCalm core → CallFits who c → (why : Option LineRefusal) → list_refusal (end_of (lists_of core) who) c.call ≡ why →
     Agrees (unless_refused why who core (makes_call who c)) (unless_untold why (lists_of core) (told_call (lists_of core) who c))
 call_agrees core who c calm fits (Some why) is = record { lists = refl; lines = refl; calm = calm }
 call_agrees core who c calm fits None is =

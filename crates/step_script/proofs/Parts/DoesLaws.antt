@@ -23,7 +23,7 @@ use Rattle.vchan_protocol.specs.Table.Ends.{read_size}
 use Rattle.vchan_protocol.proofs.History.EventLaws.{side_of_with_side}
 use Rattle.vchan_core.proofs.WholeCall.RunLaws.{machine_stands}
 use Rattle.step_script.specs.declared.player.end_player.EndPlayer.{EndPlayer}
-use Rattle.step_script.specs.declared.player.refusal.Refusal.{Refusal}
+use Rattle.step_script.specs.declared.player.refusal.LineRefusal.{LineRefusal}
 use Rattle.step_script.specs.Meaning.Output.{TextLine, answered as line_answered, refused, line_text, text_of}
 use Rattle.vchan_core.specs.WholeCall.Stepped.{stepped}
 use Rattle.step_script.specs.Meaning.Played.{Outcome, bytes_got, ends_with, finished, finishes_call, followed_by, makes_call, begins_call, prints, quiet, steps_call, steps_on, stops_with, unless_refused}
@@ -115,17 +115,17 @@ does_print who act page end_player text text' line is printed = record {
 }
 
 -- something refuses it
-pub does_refused : (who : Role) (why : Core → Option Refusal) (act : Core → Outcome) (page : Plain) (end_player : EndPlayer) (text text' : List ℕ) (reason : Refusal) → ((core : Core) → StandsFor core page → Some reason ≡ why core) →
+pub does_refused : (who : Role) (why : Core → Option LineRefusal) (act : Core → Outcome) (page : Plain) (end_player : EndPlayer) (text text' : List ℕ) (reason : LineRefusal) → ((core : Core) → StandsFor core page → Some reason ≡ why core) →
     text' ≡ text ++ line_text (refused who reason) → Does who (λ core. unless_refused (why core) who core act) page page end_player end_player text text'
 does_refused who why act page end_player text text' reason is printed =
-    does_print who (λ core. unless_refused (why core) who core act) page end_player text text' (refused who reason) (λ core stands. ap (λ (r : Option Refusal). unless_refused r who core act) (sym (is core stands))) printed
+    does_print who (λ core. unless_refused (why core) who core act) page end_player text text' (refused who reason) (λ core stands. ap (λ (r : Option LineRefusal). unless_refused r who core act) (sym (is core stands))) printed
 
 -- nothing refuses it
-pub does_allowed : (who : Role) (why : Core → Option Refusal) (act : Core → Outcome) (page page' : Plain) (end_player end_player' : EndPlayer) (text text' : List ℕ) → ((core : Core) → StandsFor core page → None ≡ why core) →
+pub does_allowed : (who : Role) (why : Core → Option LineRefusal) (act : Core → Outcome) (page page' : Plain) (end_player end_player' : EndPlayer) (text text' : List ℕ) → ((core : Core) → StandsFor core page → None ≡ why core) →
     Does who act page page' end_player end_player' text text' → Does who (λ core. unless_refused (why core) who core act) page page' end_player end_player' text text'
 does_allowed who why act page page' end_player end_player' text text' is d = record {
-  at = λ core h. subst (λ (r : Option Refusal). IsAt (unless_refused r who core act).core who page' end_player') (is core h.stands) (d.at core h);
-  prints = λ core h. d.prints core h ∙ ap (λ (r : Option Refusal). text ++ text_of (unless_refused r who core act).lines) (is core h.stands);
+  at = λ core h. subst (λ (r : Option LineRefusal). IsAt (unless_refused r who core act).core who page' end_player') (is core h.stands) (d.at core h);
+  prints = λ core h. d.prints core h ∙ ap (λ (r : Option LineRefusal). text ++ text_of (unless_refused r who core act).lines) (is core h.stands);
   other = d.other;
 }
 

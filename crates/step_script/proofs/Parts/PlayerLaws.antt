@@ -30,7 +30,7 @@ use Rattle.vchan_core.proofs.WholeCall.RunLaws.{machine_stands}
 use Rattle.step_script.specs.declared.player.end_player.EndPlayer.{EndPlayer}
 use Rattle.step_script.specs.declared.player.Player.{Player}
 use Rattle.step_script.specs.declared.script.Opening.{Opening}
-use Rattle.step_script.specs.declared.player.refusal.Refusal.{Refusal}
+use Rattle.step_script.specs.declared.player.refusal.LineRefusal.{LineRefusal}
 use Rattle.step_script.specs.Meaning.Output.{TextLine, line_text, text_of}
 use Rattle.vchan_core.specs.WholeCall.Stepped.{stepped, unless_answered}
 use Rattle.step_script.specs.Meaning.Played.{Outcome, finished, finishes_call, makes_call, begins_call, line_done, steps_call, steps_on, stops_with, unless_refused, call_refusal, step_refusal, plays, prints, quiet, ring_line, step_text}
@@ -81,7 +81,7 @@ module _ {X : Type 0} (who : Role) (f : Core → X) (side : (core : Core) (s : S
   finishes_call_kept None core = refl
   finishes_call_kept (Some b) core = alone_kept (plan_left (side_of core who)) core
 
-  refused_kept : (why : Option Refusal) (core : Core) (act : Core → Outcome) → f (act core).core ≡ f core → f (unless_refused why who core act).core ≡ f core
+  refused_kept : (why : Option LineRefusal) (core : Core) (act : Core → Outcome) → f (act core).core ≡ f core → f (unless_refused why who core act).core ≡ f core
   refused_kept None core act is = is
   refused_kept (Some reason) core act is = refl
 

@@ -13,7 +13,7 @@ use Rattle.vchan_protocol.specs.declared.call.EndState.{EndState}
 use Rattle.vchan_protocol.specs.declared.call.EndState.TheVariants.{Open, Shut}
 use Rattle.vchan_core.specs.Page.Counts.{capped}
 use Rattle.vchan_protocol.specs.Lists.ListCall.{ListEnd, ChannelLists, end_of, waiting, list_call}
-use Rattle.step_script.specs.declared.player.refusal.Refusal.{Refusal}
+use Rattle.step_script.specs.declared.player.refusal.LineRefusal.{LineRefusal}
 use Rattle.step_script.specs.declared.script.Opening.{Opening}
 use Rattle.step_script.specs.Meaning.Output.{TextLine, answered, lengths, text_of}
 use Rattle.step_script.specs.Meaning.Played.{state_refusal, step_lines}
@@ -55,7 +55,7 @@ abbrev pub opened_lists : Opening → ChannelLists
 opened_lists o = record { start = o.start; said = o.said; orders = o.orders; server = new_end Open; client = new_end o.state }
 
 -- why an end can't make a call
-abbrev pub list_refusal : ListEnd → Call → Option Refusal
+abbrev pub list_refusal : ListEnd → Call → Option LineRefusal
 list_refusal it call = state_refusal it.state it.retired call
 
 -- the bytes that a call took: the first ones that waited
@@ -77,7 +77,7 @@ told_call channel who c =
     let outcome = list_call channel who c.call c.payload in (outcome.0, told_lines who c.call (waiting channel who) outcome.1)
 
 -- a call that an end can't make does nothing, and tells nothing
-abbrev pub unless_untold : Option Refusal → ChannelLists → Told → Told
+abbrev pub unless_untold : Option LineRefusal → ChannelLists → Told → Told
 unless_untold None channel told = told
 unless_untold (Some why) channel told = (channel, [])
 

@@ -11,15 +11,15 @@ use Rattle.vchan_protocol.specs.declared.call.Call.{Call}
 use Rattle.vchan_protocol.specs.declared.call.Call.TheVariants as call
 use Rattle.vchan_protocol.specs.declared.call.Answer.{Answer}
 use Rattle.vchan_protocol.specs.declared.call.Answer.TheVariants.{Wrote, Full, Sent, NoRoom, Got, Empty, Short, PeerClosed, Ready, Space, Connected, BadOrders, Done, Event, NotYet, AllRead, PeerGone, Gone}
-use Rattle.step_script.specs.declared.player.refusal.Refusal.{Refusal}
-use Rattle.step_script.specs.declared.player.refusal.Refusal.TheVariants.{Turned, Idle, Shut, Unconnected}
+use Rattle.step_script.specs.declared.player.refusal.LineRefusal.{LineRefusal}
+use Rattle.step_script.specs.declared.player.refusal.LineRefusal.TheVariants.{Turned, Idle, Shut, Unconnected}
 
 -- an output line
 pub data TextLine : Type 0 where
   -- an end's answer to a call, and the bytes that the call took
   answered : Role → Call → Answer → List ℕ → TextLine
   -- why an end couldn't do what a line says
-  refused : Role → Refusal → TextLine
+  refused : Role → LineRefusal → TextLine
   -- the first bytes of the page, and all of them
   heads : List ℕ → TextLine
   images : List ℕ → TextLine
@@ -37,7 +37,7 @@ ring_word Left = codes "left"
 ring_word Right = codes "right"
 
 -- the word for why an end couldn't do what a line says
-abbrev pub refusal_word : Refusal → List ℕ
+abbrev pub refusal_word : LineRefusal → List ℕ
 refusal_word Turned = codes "turned"
 refusal_word Idle = codes "idle"
 refusal_word Shut = codes "shut"

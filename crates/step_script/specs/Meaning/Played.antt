@@ -21,8 +21,8 @@ use Rattle.vchan_core.specs.Page.Counts.{capped}
 use Rattle.vchan_core.specs.WholeCall.Stepped.{stepped}
 use Rattle.vchan_protocol.specs.Table.Ends.{own_gone}
 use Rattle.vchan_protocol.specs.Hostile.Turned.{poked, signalled}
-use Rattle.step_script.specs.declared.player.refusal.Refusal.{Refusal}
-use Rattle.step_script.specs.declared.player.refusal.Refusal.TheVariants.{Turned, Idle, Shut as IsShut, Unconnected}
+use Rattle.step_script.specs.declared.player.refusal.LineRefusal.{LineRefusal}
+use Rattle.step_script.specs.declared.player.refusal.LineRefusal.TheVariants.{Turned, Idle, Shut as IsShut, Unconnected}
 use Rattle.step_script.specs.Meaning.Output.{TextLine, answered, refused, heads, images, lengths, text_of}
 use Rattle.step_script.specs.Language.Script.{StepCall, StepLine, opens, calls, begins, steps, finishes, pokes, signals, head, image}
 
@@ -56,7 +56,7 @@ abbrev pub has_retired : Core → Role → Bool
 has_retired core who = not (slice_index core.words (index_of core.orders (own_gone who)) == 0)
 
 -- why an end in this state, retired or not, can't make a call
-abbrev pub state_refusal : EndState → Bool → Call → Option Refusal
+abbrev pub state_refusal : EndState → Bool → Call → Option LineRefusal
 state_refusal Shut false Retire = None
 state_refusal Shut retired call = Some IsShut
 state_refusal Fresh retired Connect = None
@@ -67,22 +67,22 @@ state_refusal Open retired Connect = Some Idle
 state_refusal Open retired call = None
 
 -- why an end can't make a call: the first reason that applies
-abbrev pub call_refusal : Core → Role → Call → Option Refusal
+abbrev pub call_refusal : Core → Role → Call → Option LineRefusal
 call_refusal core who call =
     if (side_of core who).turned then Some Turned
     else state_refusal (side_of core who).state (has_retired core who) call
 
 -- an end between two calls has no call to go on with
-abbrev pub idle_refusal : Option Begun → Option Refusal
+abbrev pub idle_refusal : Option Begun → Option LineRefusal
 idle_refusal None = Some Idle
 idle_refusal (Some b) = None
 
 -- why an end can't go on with its call: the first reason that applies
-abbrev pub step_refusal : Side → Option Refusal
+abbrev pub step_refusal : Side → Option LineRefusal
 step_refusal s = if s.turned then Some Turned else idle_refusal s.call
 
 -- what is done, if nothing refuses it
-abbrev pub unless_refused : Option Refusal → Role → Core → (Core → Outcome) → Outcome
+abbrev pub unless_refused : Option LineRefusal → Role → Core → (Core → Outcome) → Outcome
 unless_refused None who core act = act core
 unless_refused (Some why) who core act = prints core (refused who why)
 

@@ -6,11 +6,11 @@ use Rattle.vchan_protocol.specs.declared.call.EndState.{EndState}
 use Rattle.vchan_protocol.specs.declared.call.EndState.TheVariants.{Shut as IsShut}
 use Rattle.vchan_core.specs.declared.phase.Refusal.{Refusal as CallRefusal}
 use Rattle.vchan_core.specs.declared.phase.Refusal.TheVariants.{Shut as CallShut, Unconnected as CallUnconnected}
-use Rattle.step_script.specs.declared.player.refusal.Refusal.{Refusal}
-use Rattle.step_script.specs.declared.player.refusal.Refusal.TheVariants.{Idle, Shut, Unconnected}
+use Rattle.step_script.specs.declared.player.refusal.LineRefusal.{LineRefusal}
+use Rattle.step_script.specs.declared.player.refusal.LineRefusal.TheVariants.{Idle, Shut, Unconnected}
 
 -- the script's word for why a call can't be begun
-abbrev pub line_refusal : CallRefusal → Refusal
+abbrev pub line_refusal : CallRefusal → LineRefusal
 line_refusal CallShut = Shut
 line_refusal CallUnconnected = Unconnected
 line_refusal _ = Idle

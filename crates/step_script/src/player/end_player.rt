@@ -13,7 +13,7 @@ ghost use Rattle.step_script.specs.Parts.ScriptLines.{call_with};
 ghost use Rattle.step_script.specs.Parts.Refusals.{is_second_retire};
 
 use crate::player::printer::{push_answer, push_refusal};
-use crate::player::refusal::{Refusal, refusal_of_call};
+use crate::player::refusal::{LineRefusal, refusal_of_call};
 use ring_words::Role;
 use std::alloc::{AllocError, Global};
 use std::marker::Brand;
@@ -303,7 +303,7 @@ fn run_counted<L: Ledger>(
 
 /// Returns why an end between two calls can't make a call now: the first reason that applies. An
 /// end retires only once.
-fn call_refusal(page: &Plain, who: Role, call: Call) -> Option<Refusal>
+fn call_refusal(page: &Plain, who: Role, call: Call) -> Option<LineRefusal>
     requires idle { IsIdle (machine_of page.now who) }
     requires said { CanSay who call }
     ensures refusal { (core : Core) → StandsFor core page.now → result ≡ call_refusal_of core who call }
@@ -311,14 +311,14 @@ fn call_refusal(page: &Plain, who: Role, call: Call) -> Option<Refusal>
     ensures allowed { result ≡ None → Allows (machine_of page.now who) call }
 {
     if page.turned(who) {
-        return Some(Refusal::Turned);
+        return Some(LineRefusal::Turned);
     }
     let machine = page.machine(who);
     if let Some(why) = machine.refusal(call) {
         return Some(refusal_of_call(why));
     }
     if retires_again(page, who, call) {
-        return Some(Refusal::Shut);
+        return Some(LineRefusal::Shut);
     }
     None
 }
@@ -334,15 +334,15 @@ fn retires_again(page: &Plain, who: Role, call: Call) -> bool
 }
 
 /// Returns why an end can't go on with a call now: the first reason that applies.
-fn step_refusal(page: &Plain, who: Role) -> Option<Refusal>
+fn step_refusal(page: &Plain, who: Role) -> Option<LineRefusal>
     ensures refusal { (core : Core) → StandsFor core page.now → result ≡ step_refusal_of (side_of core who) }
     ensures busy { result ≡ None → ¬ IsIdle (machine_of page.now who) }
 {
     if page.turned(who) {
-        return Some(Refusal::Turned);
+        return Some(LineRefusal::Turned);
     }
     if page.machine(who).idle() {
-        return Some(Refusal::Idle);
+        return Some(LineRefusal::Idle);
     }
     None
 }

@@ -6,7 +6,7 @@ ghost use Rattle.script_words.specs.Text.{shown_bytes};
 ghost use Rattle.vchan_protocol.specs.Lists.ListLaw.{count_got as got_len};
 ghost use Rattle.step_script.specs.Parts.Spaced.{with_words};
 
-use crate::player::refusal::Refusal;
+use crate::player::refusal::LineRefusal;
 use itoa::Buffer;
 use ring_words::{Ring, Role};
 use script_words::text::{push_bytes, push_word};
@@ -33,7 +33,7 @@ pub(crate) fn push_answer(
 
 /// Appends the line of an end that couldn't do what its line says.
 #[tactic(auto, using(crate::proofs::Parts::SpacedLaws::join_spaced), unfolding(crate::specs::Meaning::Output::line_text))]
-pub(crate) fn push_refusal(out: &mut Vec<u8>, who: Role, why: Refusal) -> Result<(), AllocError>
+pub(crate) fn push_refusal(out: &mut Vec<u8>, who: Role, why: LineRefusal) -> Result<(), AllocError>
     ensures { OnOk result (out.new.items ≡ out.old.items ++ line_text (refused who why)) }
 {
     push_role(out, who)?;
@@ -190,13 +190,13 @@ fn name_of_ring(ring: Ring) -> &'static [u8]
     }
 }
 
-fn name_of_refusal(why: Refusal) -> &'static [u8]
+fn name_of_refusal(why: LineRefusal) -> &'static [u8]
     ensures { result.now ≡ refusal_word why }
 {
     match why {
-        Refusal::Turned => b"turned",
-        Refusal::Idle => b"idle",
-        Refusal::Shut => b"shut",
-        Refusal::Unconnected => b"unconnected",
+        LineRefusal::Turned => b"turned",
+        LineRefusal::Idle => b"idle",
+        LineRefusal::Shut => b"shut",
+        LineRefusal::Unconnected => b"unconnected",
     }
 }

@@ -6,7 +6,7 @@ use vchan_core::Refusal as CallRefusal;
 
 /// Why an end couldn't do what a line says: the first of these that applies.
 #[derive(Clone, Copy, Debug, PartialEq, Eq)]
-pub(crate) enum Refusal {
+pub(crate) enum LineRefusal {
     /// The end was turned over to a hostile user.
     Turned,
     /// The end is inside no call, or the client has already connected.
@@ -18,15 +18,15 @@ pub(crate) enum Refusal {
 }
 
 /// Returns why an end that is inside no call can't begin one that a script names.
-pub(crate) fn refusal_of_call(why: CallRefusal) -> Refusal
+pub(crate) fn refusal_of_call(why: CallRefusal) -> LineRefusal
     requires between { why ≢ CallRefusal.Busy }
     requires some { why ≢ CallRefusal.NoBytes }
     ensures { result ≡ line_refusal why }
 {
     match why {
-        CallRefusal::Shut => Refusal::Shut,
-        CallRefusal::Unconnected => Refusal::Unconnected,
-        CallRefusal::Connected => Refusal::Idle,
+        CallRefusal::Shut => LineRefusal::Shut,
+        CallRefusal::Unconnected => LineRefusal::Unconnected,
+        CallRefusal::Connected => LineRefusal::Idle,
         CallRefusal::Busy | CallRefusal::NoBytes => unreachable!(),
     }
 }

@@ -26,24 +26,24 @@ returns-in_err-hear_all-clause-retire c =
 
 pub returns-clause-listens : goal.returns-clause-listens
 returns-clause-listens c = λ up.
-    let same = c.settle.ensures.up up in
+    let same = c.end_channel.ensures.up up in
     let port = c.args.self.now.control.port in
     subst (λ (e : SeatedEnd). Listens port e) (sym (ap (λ (k : AgentControl). k.port.end) same.0 ∙ c.hear_all.ensures.end))
     (listens_by port c.greet.new.self.control.port c.drain.new.self.control.port.end c.in_ok-drained.drained c.in_ok-greet.ensures.greets c.in_ok-greet.ensures.got c.in_ok-drained.ensures.drains same.1)
 
 pub returns-clause-next : goal.returns-clause-next
 returns-clause-next c =
-    ap (λ (q : QueueState). q.next) c.settle.ensures.queue ∙ c.hear_all.ensures.next ∙ ap (λ (q : QueueState). q.next) c.drain.ensures.queue ∙ ap (λ (q : QueueState). q.next) c.greet.ensures.queue
+    ap (λ (q : QueueState). q.next) c.end_channel.ensures.queue ∙ c.hear_all.ensures.next ∙ ap (λ (q : QueueState). q.next) c.drain.ensures.queue ∙ ap (λ (q : QueueState). q.next) c.greet.ensures.queue
 
 pub returns-clause-end : goal.returns-clause-end
 returns-clause-end c = λ up.
     let old = c.args.self.now.control.port.end in
     let drained = c.drain.new.self.control.port.end in
-    subst (λ (e : SeatedEnd). IsSameEnd old e) (sym (ap (λ (k : AgentControl). k.port.end) (c.settle.ensures.up up).0 ∙ c.hear_all.ensures.end))
+    subst (λ (e : SeatedEnd). IsSameEnd old e) (sym (ap (λ (k : AgentControl). k.port.end) (c.end_channel.ensures.up up).0 ∙ c.hear_all.ensures.end))
     (same_end_then old c.greet.new.self.control.port.end drained c.greet.ensures.end c.drain.ensures.end)
 
 pub returns-clause-bytes : goal.returns-clause-bytes
 returns-clause-bytes c =
-    let settled = c.settle.new.self.control.port.end in
+    let settled = c.end_channel.new.self.control.port.end in
     listens_keep c.args.self.now.control.port c.greet.new.self.control.port c.drain.new.self.control.port.end settled c.in_ok-drained.drained c.in_ok-greet.ensures.greets c.in_ok-greet.ensures.got c.in_ok-drained.ensures.drains
-    (subst (λ (e : SeatedEnd). KeepsBytes (view e) (view settled)) c.hear_all.ensures.end c.settle.ensures.bytes)
+    (subst (λ (e : SeatedEnd). KeepsBytes (view e) (view settled)) c.hear_all.ensures.end c.end_channel.ensures.bytes)

@@ -6,8 +6,8 @@ use Rattle.call_broker.specs.Journal.{events, IsNumbered}
 use Rattle.call_broker.proofs.BrokerLaws.{has_room, pages_within, kept_more}
 use Rattle.call_broker.proofs.broker.Broker.event.Goals as goal
 
-pub settle-requires : goal.settle-requires
-settle-requires c =
+pub enter-requires : goal.enter-requires
+enter-requires c =
     let inside = c.self.inside in
     let decided : c.in_ok-decision.decision ≡ decision c.args.self.now.hub (events c.args.self.now.journal) c.args.event = c.in_ok-decision.ensures in
     let here : c.in_ok-decision.decision ≡ decision (hub_of inside) (events inside.journal.items) c.args.event =
@@ -25,4 +25,4 @@ invariant_of-self-2 c =
     let reserved : c.reserve.new.self.items ≡ inside.journal.items = c.in_ok-reserve.ensures.items in
     let journal : c.append.new.journal.items ≡ inside.journal.items ++ record { event = c.args.event; decision = c.in_ok-decision.decision } ∷ [] =
     pushed ∙ ap (λ entries. entries ++ record { event = c.args.event; decision = c.in_ok-decision.decision } ∷ []) reserved in
-    kept_more inside _ c.args.event c.in_ok-decision.decision c.self.invariant refl refl journal numbered here c.in_ok-settle.ensures.ok
+    kept_more inside _ c.args.event c.in_ok-decision.decision c.self.invariant refl refl journal numbered here c.in_ok-enter.ensures.ok

@@ -1,5 +1,5 @@
 use Rattle.std.proofs.Common.{◌≡◌}
-use Rattle.task_pool.specs.Hand.{all_parts}
+use Rattle.task_pool.specs.Holding.{all_parts}
 use Rattle.crossbeam_queue.specs.Passes.{view, IsPassOf}
 use Rattle.task_pool.specs.Results.{Settled}
 use Rattle.task_pool.proofs.account.Account.finish.Given as goal

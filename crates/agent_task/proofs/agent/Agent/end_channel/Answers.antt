@@ -4,7 +4,7 @@ use Rattle.end_view.specs.EndView.{EndView}
 use Rattle.vchan_rule.specs.Seated.{view}
 use Rattle.channel_session.proofs.KeepingLaws.{keeps_all, same_bytes}
 use Rattle.agent_task.proofs.RoundLaws.{up_running, goes_on, is_over, running_rests}
-use Rattle.agent_task.proofs.agent.Agent.settle.Goals as goal
+use Rattle.agent_task.proofs.agent.Agent.end_channel.Goals as goal
 
 pub returns-in-Some-clause-running : goal.returns-in-Some-clause-running
 returns-in-Some-clause-running c =

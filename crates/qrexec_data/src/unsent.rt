@@ -15,12 +15,12 @@ use vchan_io::Memory;
 /// Messages that wait to go, in their written spelling. Contracts see the bytes that haven't gone
 /// yet.
 #[derive(Debug, Drop)]
-pub(crate) struct Outbox {
+pub(crate) struct Unsent {
     bytes: Vec<u8>,
     gone: usize,
 }
 
-impl Model for Outbox {
+impl Model for Unsent {
     ghost use Rattle.std.specs.Prelude.{◌≤◌, List, ℕ, length, drop};
 
     ghost Value = { List ℕ };
@@ -30,11 +30,11 @@ impl Model for Outbox {
     ghost invariant = { λ o. o.gone ≤ length o.bytes.items };
 }
 
-impl Outbox {
-    pub(crate) fn new(alloc: Global) -> Outbox
+impl Unsent {
+    pub(crate) fn new(alloc: Global) -> Unsent
         ensures { result ≡ [] }
     {
-        Outbox {
+        Unsent {
             bytes: Vec::new(alloc),
             gone: 0,
         }

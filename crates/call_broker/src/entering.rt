@@ -1,6 +1,6 @@
 //! The effect of an event on the two tables that a broker keeps beside its journal.
 ghost use Rattle.std.specs.Prelude.{◌≡◌, ◌∷◌, [], ◌++◌, ◌<◌, vec_len, vec_capacity, OnOk, OnErr};
-ghost use Rattle.call_broker.specs.Tables.{HasRoom, IsSettled, SameCalls, SameDropped};
+ghost use Rattle.call_broker.specs.Tables.{HasRoom, IsEntered, SameCalls, SameDropped};
 
 use crate::decision::{Decision, Entry};
 use crate::event::Event;
@@ -9,14 +9,14 @@ use std::alloc::AllocError;
 use std::collections::BTreeSet;
 
 /// Enters the decision on an event in the tables. If memory runs out, both tables are as they were.
-pub(crate) fn settle(
+pub(crate) fn enter(
     calls: &mut Table,
     dropped: &mut BTreeSet<u32>,
     event: &Event,
     decision: Decision,
 ) -> Result<(), AllocError>
     requires { HasRoom event.now decision calls.old }
-    ensures ok { OnOk result (IsSettled event.now decision calls.old dropped.old calls.new dropped.new) }
+    ensures ok { OnOk result (IsEntered event.now decision calls.old dropped.old calls.new dropped.new) }
     ensures err { OnErr result (SameCalls calls.old calls.new × SameDropped dropped.old dropped.new) }
 {
     match event {
