@@ -5,6 +5,7 @@ use Rattle.std.proofs.lemmas.Bool.{false≢true}
 use Rattle.std.proofs.lemmas.List.{length-append}
 use Rattle.vchan_protocol.specs.declared.call.Answer.TheVariants.{Gone}
 use Rattle.vchan_protocol.specs.declared.call.Call.TheVariants.{Drain, PeerGone as AskGone}
+use Rattle.vchan_protocol.specs.declared.call.EndState.TheVariants.{Open}
 use Rattle.vchan_protocol.specs.Table.Calls.{Trace}
 use Rattle.vchan_protocol.specs.Answering.Causes.{DrainCause}
 use Rattle.vchan_protocol.specs.Answering.Loads.{loads_of}
@@ -118,26 +119,29 @@ nothing_got version greeted letters old new (letter_waits at l is there free hel
 still : (x y : Daemon) → y.outbox.letters.items ≡ x.outbox.letters.items → IsLater x.outbox.letters.items y.outbox.letters.items
 still x y is = subst (λ (l : List Letter). IsLater x.outbox.letters.items l) (sym is) (later_self x.outbox.letters.items)
 
-pub greeting_waits_lem : (x y : Daemon) → OnlyPort x y → GreetsAsTold false x y → SendsOrNot x y
-greeting_waits_lem x y only says = record {
+pub greeting_waits_lem : (x y : Daemon) → (view y.port.end).state ≡ Open → OnlyPort x y → GreetsAsTold false x y → SendsOrNot x y
+greeting_waits_lem x y up only says = record {
+  up = up;
   got = nothing_got y.port.version y.port.greeted x.outbox.letters.items x.port.end y.port.end says;
   sends = inr (says, still x y (ap (λ (z : Daemon). z.outbox.letters.items) only));
 }
 
-pub all_held_lem : (x y : Daemon) → OnlyPort x y → GreetsAsTold true x y → y.port.greeted ≡ true → AreHeld y.outbox.letters.items → SendsOrNot x y
-all_held_lem x y only (inl same) greeted held = record {
+pub all_held_lem : (x y : Daemon) → (view y.port.end).state ≡ Open → OnlyPort x y → GreetsAsTold true x y → y.port.greeted ≡ true → AreHeld y.outbox.letters.items → SendsOrNot x y
+all_held_lem x y up only (inl same) greeted held = record {
+  up = up;
   got = ap (λ (z : Daemon). (end_of z).got) same;
   sends = inr (
     all_held greeted (subst (λ (l : List Letter). AreHeld l) (ap (λ (z : Daemon). z.outbox.letters.items) only) held) (ap (λ (z : Daemon). z.port.end) same),
     still x y (ap (λ (z : Daemon). z.outbox.letters.items) only),
   );
 }
-all_held_lem x y only (inr more) greeted held = record { got = more.got; sends = inl more.more }
+all_held_lem x y up only (inr more) greeted held = record { up = up; got = more.got; sends = inl more.more }
 
-pub letter_waits_lem : (x y z : Daemon) (at : ℕ) (l : Letter) → OnlyPort x y → GreetsAsTold true x y → y.port.greeted ≡ true → z.port.greeted ≡ y.port.greeted → z.outbox ≡ y.outbox → IsAt y.outbox.letters.items at l → l.held ≡ false
+pub letter_waits_lem : (x y z : Daemon) (at : ℕ) (l : Letter) → (view z.port.end).state ≡ Open → OnlyPort x y → GreetsAsTold true x y → y.port.greeted ≡ true → z.port.greeted ≡ y.port.greeted → z.outbox ≡ y.outbox → IsAt y.outbox.letters.items at l → l.held ≡ false
     → AreHeld (take at y.outbox.letters.items) → IsSameEnd y.port.end z.port.end → FailsToSend (written l.message) y.port.end z.port.end → SendsOrNot x z
-letter_waits_lem x y z at l only (inl same) greeted still_greeted box there free held end fails =
+letter_waits_lem x y z at l up only (inl same) greeted still_greeted box there free held end fails =
     let letters : y.outbox.letters.items ≡ x.outbox.letters.items = ap (λ (w : Daemon). w.outbox.letters.items) only in record {
+      up = up;
       got = got_no_more _ y.port.end z.port.end fails ∙ ap (λ (w : Daemon). (end_of w).got) same;
       sends = inr (
         letter_waits at l (still_greeted ∙ greeted) (subst (λ (ls : List Letter). IsAt ls at l) letters there) free (subst (λ (ls : List Letter). AreHeld (take at ls)) letters held)
@@ -146,8 +150,8 @@ letter_waits_lem x y z at l only (inl same) greeted still_greeted box there free
         still x z (ap (λ b. b.letters.items) box ∙ letters),
       );
     }
-letter_waits_lem x y z at l only (inr more) greeted still_greeted box there free held end fails =
-    record { got = got_no_more _ y.port.end z.port.end fails ∙ more.got; sends = inl (subst (λ (s : List ℕ). length (end_of x).sent < length s) (sym (sent_no_more _ y.port.end z.port.end fails)) more.more) }
+letter_waits_lem x y z at l up only (inr more) greeted still_greeted box there free held end fails =
+    record { up = up; got = got_no_more _ y.port.end z.port.end fails ∙ more.got; sends = inl (subst (λ (s : List ℕ). length (end_of x).sent < length s) (sym (sent_no_more _ y.port.end z.port.end fails)) more.more) }
 
 pub letter_goes : (x y z : Daemon) (m : Message) → GreetsAsTold true x y → view z.port.end ≡ sent_to (view y.port.end) Sent (written m) → SendsMore x z
 letter_goes x y z m (inl same) is =

@@ -19,7 +19,9 @@ use Rattle.broker_task.specs.declared.switchboard.Switchboard.{Switchboard}
 use Rattle.broker_task.specs.declared.task.BrokerTurn.{BrokerTurn}
 use Rattle.broker_task.specs.declared.task.BrokerTurn.TheVariants as turn
 use Rattle.broker_task.specs.Turns.{TurnsEach, KeepsLines}
-use Rattle.broker_task.specs.Lines.{end_of, is_shut, is_gone, OnlyPort}
+use Rattle.vchan_protocol.specs.declared.call.EndState.{EndState}
+use Rattle.vchan_protocol.specs.declared.call.EndState.TheVariants.{Fresh, Open, Shut}
+use Rattle.broker_task.specs.Lines.{end_of, is_begun, is_shut, is_gone, OnlyPort}
 use Rattle.broker_task.specs.Posting.{EachMoves, LetsGo, Posts}
 use Rattle.broker_task.specs.Moving.{BrokerLine, line_of, IsLater, HearsNothing, SaysNothing, has_not_greeted, all_held, greeting_waits, letter_waits, Grows, HasMoved, IsQuiet, HasTurned, StandsBy, FindsHere, Listens, ListensAsTold, Decides, SendsMore, SendsOrNot, SendsSoFar, IsDropped, Turns, Steps}
 use Rattle.broker_task.proofs.PostLaws.{moves_one, moves_as, moves_then}
@@ -89,6 +91,12 @@ grows_shut x y gone got sent = record {
 grows_told : (there : Bool) (x y : Daemon) → ListensAsTold there x y → Grows x.port.end y.port.end
 grows_told true x y told = told.grows
 grows_told false x y told = told
+
+-- an end that is shut isn't fresh
+begun_shut : (s : EndState) → is_shut s ≡ true → is_begun s ≡ true
+begun_shut Fresh is = is
+begun_shut Open is = refl
+begun_shut Shut is = refl
 
 -- ---- domains that stand by
 
@@ -173,6 +181,7 @@ either f g (inr b) = inr (g b)
 
 pub turned_after : (x y z : Daemon) → StandsBy y z → HasTurned (line_of x) (line_of y) → HasTurned (line_of x) (line_of z)
 turned_after x y z by turned = record {
+  begun = subst (λ (q : PortState). is_begun (view q.end).state ≡ true) (sym by.port) turned.begun;
   grows = subst (λ (q : PortState). Grows x.port.end q.end) (sym by.port) turned.grows;
   found = λ up.
       either (subst (λ (q : PortState). Moved q) (sym by.port)) (λ (q : IsQuiet (line_of x) (line_of y)). record {
@@ -190,6 +199,7 @@ turned_after x y z by turned = record {
 
 pub turned_before : (w x y : Daemon) → StandsBy w x → HasTurned (line_of x) (line_of y) → HasTurned (line_of w) (line_of y)
 turned_before w x y by turned = record {
+  begun = turned.begun;
   grows = subst (λ (q : PortState). Grows q.end y.port.end) by.port turned.grows;
   found = λ up.
       either (subst (λ (q : PortState). Moved q) by.port) (λ (q : IsQuiet (line_of x) (line_of y)). record {
@@ -246,7 +256,7 @@ sends_on x y z (inr more) s = record { got = s.got ∙ more.got; more = omega (a
 
 pub sends_out : (x y z : Daemon) → SendsSoFar x y → SendsOrNot y z → SendsOrNot x z
 sends_out x y z (inl same) s = subst (λ (w : Daemon). SendsOrNot w z) same s
-sends_out x y z (inr more) s = record { got = s.got ∙ more.got; sends = inl (by_sends s.sends) }
+sends_out x y z (inr more) s = record { up = s.up; got = s.got ∙ more.got; sends = inl (by_sends s.sends) }
   where
     by_sends : (length (view y.port.end).sent < length (view z.port.end).sent)
         ⊎ (SaysNothing z.port.version z.port.greeted y.outbox.letters.items y.port.end z.port.end × IsLater y.outbox.letters.items z.outbox.letters.items)
@@ -334,18 +344,16 @@ pub gone_turns : (domain : ℕ) (ds : List Daemon) (i : ℕ) (x : Daemon) → Is
 gone_turns domain ds i x there number gone = steps_self domain Turns ds (λ j y at here. turned j y at here)
   where
     turned : (j : ℕ) (y : Daemon) → IsAt ds j y → j + 1 ≡ domain → Turns y y
-    turned j y at here = record {
-      grows = grows_self y.port.end;
-      found = λ up.
-          let place : j ≡ i = omega (arith, here, number) in
-          let same : y ≡ x = at_one ds i y x (subst (λ (k : ℕ). IsAt ds k y) place at) there in
-          absurd (false≢true (sym up ∙ ap (λ (z : Daemon). is_gone z) same ∙ gone));
-    }
+    turned j y at here =
+        let place : j ≡ i = omega (arith, here, number) in
+        let same : y ≡ x = at_one ds i y x (subst (λ (k : ℕ). IsAt ds k y) place at) there in
+        let shut : is_gone y ≡ true = ap (λ (z : Daemon). is_gone z) same ∙ gone in
+        record { begun = begun_shut (view y.port.end).state shut; grows = grows_self y.port.end; found = λ up. absurd (false≢true (sym up ∙ shut)) }
 
 pub drop_turns : (domain : ℕ) (there : Bool) (a b c d : List Daemon) → EachMoves (Steps domain (ListensAsTold there)) a b → EachMoves (Steps domain Decides) b c → EachMoves (Steps domain IsDropped) c d → EachMoves (Steps domain Turns) a d
 drop_turns domain there a b c d listens decides drop =
     steps_then domain (ListensAsTold there) IsDropped Turns a b d
-    (λ x y z l g. record { grows = grows_then x.port.end y.port.end z.port.end (grows_told there x y l) g.grows; found = λ up. absurd (false≢true (sym up ∙ g.shut)) }) listens
+    (λ x y z l g. record { begun = begun_shut (view z.port.end).state g.shut; grows = grows_then x.port.end y.port.end z.port.end (grows_told there x y l) g.grows; found = λ up. absurd (false≢true (sym up ∙ g.shut)) }) listens
     (steps_then domain Decides IsDropped IsDropped b c d (λ x y z p g. record { grows = subst (λ (e : SeatedEnd). Grows e z.port.end) p.end g.grows; shut = g.shut }) decides drop)
 
 -- what was taken and decided
@@ -356,7 +364,7 @@ record Hears (x y : Daemon) : Type 0 where
 
 pub send_turns : (domain : ℕ) (a b c d : List Daemon) → EachMoves (Steps domain Listens) a b → EachMoves (Steps domain Decides) b c → EachMoves (Steps domain SendsOrNot) c d → EachMoves (Steps domain Turns) a d
 send_turns domain a b c d listens decides sends =
-    steps_then domain Hears SendsOrNot Turns a c d (λ x y z h s. record { grows = grows_sending x h.a y z h.listens h.decides s; found = λ up. turned_own x h.a y z h.listens h.decides s })
+    steps_then domain Hears SendsOrNot Turns a c d (λ x y z h s. record { begun = ap is_begun s.up; grows = grows_sending x h.a y z h.listens h.decides s; found = λ up. turned_own x h.a y z h.listens h.decides s })
     (steps_then domain Listens Decides Hears a b c (λ x y z l p. record { a = y; listens = l; decides = p }) listens decides) sends
 
 pub turns_each : (old new : Switchboard) (result : BrokerTurn) → EachMoves (λ d. Turns) old.daemons.items new.daemons.items → KeepsLines new result → TurnsEach (map line_of old.daemons.items) result

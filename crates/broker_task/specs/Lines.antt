@@ -33,6 +33,11 @@ is_shut Fresh = false
 is_shut Open = false
 is_shut Shut = true
 
+abbrev pub is_begun : EndState → Bool
+is_begun Fresh = false
+is_begun Open = true
+is_begun Shut = true
+
 -- its end was retired when the domain was dropped
 abbrev pub is_gone : Daemon → Bool
 is_gone x = is_shut (end_of x).state

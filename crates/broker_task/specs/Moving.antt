@@ -3,7 +3,7 @@
 use Rattle.std.specs.Prelude.{◌≡◌, ◌≢◌, ◌⊎◌, ℕ, ◌<◌, ◌≤◌, Bool, true, false, List, [], ◌∷◌, length, take, Option, None, IsSome}
 use Rattle.vchan_protocol.specs.declared.call.Answer.TheVariants.{Connected, Gone}
 use Rattle.vchan_protocol.specs.declared.call.Call.TheVariants.{Connect, PeerGone}
-use Rattle.vchan_protocol.specs.declared.call.EndState.TheVariants.{Fresh}
+use Rattle.vchan_protocol.specs.declared.call.EndState.TheVariants.{Fresh, Open}
 use Rattle.vchan_protocol.specs.Table.Calls.{Trace}
 use Rattle.vchan_protocol.specs.History.Core.{standing_of}
 use Rattle.vchan_notify.specs.Notify.{HasFoundGone}
@@ -17,7 +17,7 @@ use Rattle.task_duties.specs.Broker.Owes.{broker_version}
 use Rattle.broker_task.specs.declared.outbox.Letter.{Letter}
 use Rattle.broker_task.specs.declared.daemon.Daemon.{Daemon}
 use Rattle.broker_task.specs.Letters.{IsAt, AreHeld}
-use Rattle.broker_task.specs.Lines.{is_shut}
+use Rattle.broker_task.specs.Lines.{is_begun, is_shut}
 
 -- one domain: the broker's end of its control page, with the events of its last call; the version, once the domain's greeting was read; whether the broker's own greeting was sent; and the letters that wait
 pub record BrokerLine : Type 0 where
@@ -85,8 +85,9 @@ pub record IsQuiet (old new : BrokerLine) : Type 0 where
   pub hears : HearsNothing old.version letters old.end heard
   pub says : SaysNothing new.version new.greeted letters heard new.end
 
--- nothing of a domain was lost, and one that isn't dropped moved or was quiet
+-- the broker has connected; nothing of a domain was lost, and one that isn't dropped moved or was quiet
 pub record HasTurned (old new : BrokerLine) : Type 0 where
+  pub begun : is_begun (view new.end).state ≡ true
   pub grows : Grows old.end new.end
   pub found : is_shut (view new.end).state ≡ false → HasMoved old new ⊎ IsQuiet old new
 
@@ -122,6 +123,7 @@ pub record SendsMore (x y : Daemon) : Type 0 where
 
 -- something was sent, or there was nothing that could be
 pub record SendsOrNot (x y : Daemon) : Type 0 where
+  pub up : (view y.port.end).state ≡ Open
   pub got : (view y.port.end).got ≡ (view x.port.end).got
   pub sends : (length (view x.port.end).sent < length (view y.port.end).sent)
       ⊎ (SaysNothing y.port.version y.port.greeted x.outbox.letters.items x.port.end y.port.end × IsLater x.outbox.letters.items y.outbox.letters.items)

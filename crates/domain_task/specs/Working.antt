@@ -15,7 +15,7 @@ use Rattle.data_slots.specs.Sessions.{Session, NotBegun, CallsWith, AwaitsPage, 
 use Rattle.agent_control.specs.declared.control.AgentControl.{AgentControl}
 use Rattle.agent_task.specs.State.{AgentState}
 use Rattle.agent_task.specs.Moving.{HearsNothing}
-use Rattle.broker_task.specs.Lines.{is_shut}
+use Rattle.broker_task.specs.Lines.{is_begun, is_shut}
 use Rattle.broker_task.specs.Moving.{BrokerLine, IsQuiet}
 use Rattle.broker_task.specs.Posting.{one_if}
 use Rattle.hostile_task.specs.Plan.{HostileState}
@@ -83,16 +83,17 @@ pub record AgentRests (old new : AgentState) : Type 0 where
 
 -- ---- the broker, by its domains
 
--- what was heard from a domain and said to it, and one more once it was dropped
+-- what was heard from a domain and said to it, one more once the broker has connected, and one once the domain was dropped
 abbrev pub work_with : BrokerLine → ℕ
-work_with line = bytes_on line.end + one_if (is_shut (view line.end).state)
+work_with line = bytes_on line.end + one_if (is_begun (view line.end).state) + one_if (is_shut (view line.end).state)
 
 abbrev pub work_with_all : List BrokerLine → ℕ
 work_with_all [] = 0
 work_with_all (line ∷ lines) = work_with line + work_with_all lines
 
--- a domain was quiet, or had been dropped; nothing was heard from it, and nothing said to it
+-- a domain was quiet, or had been dropped; the broker had connected before; nothing was heard from it, and nothing said to it
 pub record Rests (old new : BrokerLine) : Type 0 where
+  pub begun : is_begun (view new.end).state ≡ is_begun (view old.end).state
   pub shut : is_shut (view new.end).state ≡ is_shut (view old.end).state
   pub got : length (view new.end).got ≡ length (view old.end).got
   pub sent : length (view new.end).sent ≡ length (view old.end).sent

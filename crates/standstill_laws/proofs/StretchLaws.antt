@@ -5,7 +5,8 @@ use Rattle.std.proofs.lemmas.Option.{none-some, same_Some}
 use Rattle.std.specs.List.{AllZip as EachPair}
 use Rattle.ring_words.specs.declared.page.Role.{Role}
 use Rattle.ring_words.specs.declared.page.Role.TheVariants.{Server, Client}
-use Rattle.vchan_protocol.specs.declared.call.EndState.TheVariants.{Open, Shut}
+use Rattle.vchan_protocol.specs.declared.call.EndState.{EndState}
+use Rattle.vchan_protocol.specs.declared.call.EndState.TheVariants.{Fresh, Open, Shut}
 use Rattle.vchan_protocol.specs.declared.side.Side.{Side}
 use Rattle.vchan_protocol.specs.History.Core.{Core, side_of}
 use Rattle.vchan_protocol.specs.Honest.LifeLaw.{WordsTell}
@@ -22,6 +23,7 @@ use Rattle.agent_control.specs.declared.control.AgentControl.{AgentControl}
 use Rattle.agent_task.specs.State.{AgentState}
 use Rattle.broker_task.specs.Given.{BrokerState}
 use Rattle.broker_task.specs.Letters.{IsAt}
+use Rattle.broker_task.specs.Lines.{is_begun, is_shut}
 use Rattle.broker_task.specs.Moving.{BrokerLine}
 use Rattle.broker_task.proofs.Lists.{at_one}
 use Rattle.domain_task.specs.declared.task.Task.{Task}
@@ -259,14 +261,27 @@ control_rested task task' before now rests old new =
 
 -- ---- the broker's end
 
-abbrev LineHasAsMany : BrokerLine → BrokerLine → Type 0
-LineHasAsMany old new = (length (view new.end).got ≡ length (view old.end).got) × (length (view new.end).sent ≡ length (view old.end).sent)
+-- a state that is fresh and shut as another one is the same
+same_state : (a b : EndState) → is_begun b ≡ is_begun a → is_shut b ≡ is_shut a → b ≡ a
+same_state Fresh Fresh begun shut = refl
+same_state Fresh Open begun shut = cc
+same_state Fresh Shut begun shut = cc
+same_state Open Fresh begun shut = cc
+same_state Open Open begun shut = refl
+same_state Open Shut begun shut = cc
+same_state Shut Fresh begun shut = cc
+same_state Shut Open begun shut = cc
+same_state Shut Shut begun shut = refl
+
+-- as many bytes, and the same state
+abbrev LineStays : BrokerLine → BrokerLine → Type 0
+LineStays old new = (length (view new.end).got ≡ length (view old.end).got) × (length (view new.end).sent ≡ length (view old.end).sent) × ((view new.end).state ≡ (view old.end).state)
 
 -- what the broker keeps at this place after one turn
 record NextLine (line : BrokerLine) (lines : List BrokerLine) (place : ℕ) : Type 0 where
   next : BrokerLine
   there : IsAt lines place next
-  same : LineHasAsMany line next
+  same : LineStays line next
 
 next_line : (old new : List BrokerLine) (place : ℕ) (line : BrokerLine) → EachPair Rests old new → IsAt old place line → NextLine line new place
 next_line [] new place line rests at = absurd (omega (arith, at.within))
@@ -274,7 +289,7 @@ next_line (x ∷ old) [] place line rests at = absurd rests
 next_line (x ∷ old) (y ∷ new) zero line rests at = record {
   next = y;
   there = record { within = omega arith; is = refl };
-  same = subst (λ (l : BrokerLine). LineHasAsMany l y) (sym at.is) (rests.0.got, rests.0.sent);
+  same = subst (λ (l : BrokerLine). LineStays l y) (sym at.is) (rests.0.got, rests.0.sent, same_state (view x.end).state (view y.end).state rests.0.begun rests.0.shut);
 }
 next_line (x ∷ old) (y ∷ new) (suc place) line rests at = up (next_line old new place line rests.1 (record { within = omega (arith, at.within); is = at.is }))
   where
@@ -287,14 +302,14 @@ record LineRested (line : BrokerLine) (last : Task) (place : ℕ) : Type 0 where
   is : last ≡ Broker now
   next : BrokerLine
   there : IsAt now.lines place next
-  same : LineHasAsMany line next
+  same : LineStays line next
 
 line_rested : (task last : Task) → RestsOn task last → (b : BrokerState) (line : BrokerLine) (place : ℕ) → task ≡ Broker b → IsAt b.lines place line → LineRested line last place
-line_rested task last (NoTurn t) b line place is at = record { now = b; is = is; next = line; there = at; same = (refl, refl) }
+line_rested task last (NoTurn t) b line place is at = record { now = b; is = is; next = line; there = at; same = (refl, refl, refl) }
 line_rested task last (OneTurn before now last' nothing rest) b line place is at = by_now now (λ n l it. line_rested now last rest n l place it) (subst (λ (t : Task). DoesNothing t now) is nothing)
   where
-    joined : (l : BrokerLine) → LineHasAsMany line l → LineRested l last place → LineRested line last place
-    joined l one all = record { now = all.now; is = all.is; next = all.next; there = all.there; same = (all.same.0 ∙ one.0, all.same.1 ∙ one.1) }
+    joined : (l : BrokerLine) → LineStays line l → LineRested l last place → LineRested line last place
+    joined l one all = record { now = all.now; is = all.is; next = all.next; there = all.there; same = (all.same.0 ∙ one.0, all.same.1 ∙ one.1, all.same.2 ∙ one.2) }
 
     by_now : (now : Task) → ((n : BrokerState) (l : BrokerLine) → now ≡ Broker n → IsAt n.lines place l → LineRested l last place) → DoesNothing (Broker b) now → LineRested line last place
     by_now (Broker n) on rests = let one = next_line b.lines n.lines place line rests at in joined one.next one.same (on n one.next refl one.there)
@@ -308,30 +323,32 @@ record LineHolder (task : Task) (place : ℕ) (side : Side) : Type 0 where
   line : BrokerLine
   there : IsAt broker.lines place line
   end : line.end.side ≡ side
-  open_is : side.state ≡ Open
 
 line_holder : (task : Task) (place : ℕ) (side : Side) → HoldsLine task place side → LineHolder task place side
-line_holder (Broker b) place side h = record { broker = b; is = refl; line = h.0.0; there = h.0.1; end = h.0.2; open_is = h.1 }
+line_holder (Broker b) place side h = record { broker = b; is = refl; line = h.0; there = h.1; end = h.2 }
 line_holder (Agent a) place side h = absurd h
 line_holder (Hostile t) place side h = absurd h
 
 same_broker : (a b : BrokerState) → Broker a ≡ Broker b → a ≡ b
 same_broker a b e = cc
 
-broker_rested : (task task' : Task) (place : ℕ) (before now : Side) → RestsOn task task' → LineHolder task place before → LineHolder task' place now → (length now.got ≡ length before.got) × (length now.sent ≡ length before.sent)
+broker_rested : (task task' : Task) (place : ℕ) (before now : Side) → RestsOn task task' → LineHolder task place before → LineHolder task' place now
+    → ((length now.got ≡ length before.got) × (length now.sent ≡ length before.sent)) × (now.state ≡ before.state)
 broker_rested task task' place before now rests old new =
     let rested = line_rested task task' rests old.broker old.line place old.is old.there in
     let one : rested.now ≡ new.broker = same_broker rested.now new.broker (sym rested.is ∙ new.is) in
     let at : IsAt new.broker.lines place rested.next = subst (λ (b : BrokerState). IsAt b.lines place rested.next) one rested.there in
     let it : rested.next ≡ new.line = at_one new.broker.lines place rested.next new.line at new.there in
-    let same : LineHasAsMany old.line new.line = subst (λ (l : BrokerLine). LineHasAsMany old.line l) it rested.same in
-    (ap (λ (s : Side). length s.got) (sym new.end) ∙ same.0 ∙ ap (λ (s : Side). length s.got) old.end, ap (λ (s : Side). length s.sent) (sym new.end) ∙ same.1 ∙ ap (λ (s : Side). length s.sent) old.end)
+    let same : LineStays old.line new.line = subst (λ (l : BrokerLine). LineStays old.line l) it rested.same in (
+      (ap (λ (s : Side). length s.got) (sym new.end) ∙ same.0 ∙ ap (λ (s : Side). length s.got) old.end, ap (λ (s : Side). length s.sent) (sym new.end) ∙ same.1 ∙ ap (λ (s : Side). length s.sent) old.end),
+      ap (λ (s : Side). s.state) (sym new.end) ∙ same.2 ∙ ap (λ (s : Side). s.state) old.end,
+    )
 
 pub control_pages_rest_lem : ControlPagesRest
-control_pages_rest_lem before now agent agent' broker broker' place moments hears says old_agent old_line new_agent new_line =
+control_pages_rest_lem before now agent agent' broker broker' place moments hears says up old_agent old_line new_agent new_line =
     let a = control_holder agent before.server old_agent in
     let b = line_holder broker place before.client old_line in
     let c = control_holder agent' now.server new_agent in
     let d = line_holder broker' place now.client new_line in
-    page_rested before now moments (record { server = a.open_is; client = b.open_is }) (record { server = c.open_is; client = d.open_is })
-    (control_rested agent agent' before.server now.server hears a c) (broker_rested broker broker' place before.client now.client says b d)
+    let stays = broker_rested broker broker' place before.client now.client says b d in
+    page_rested before now moments (record { server = a.open_is; client = up }) (record { server = c.open_is; client = stays.1 ∙ up }) (control_rested agent agent' before.server now.server hears a c) stays.0

@@ -65,12 +65,12 @@ abbrev pub HoldsControl : Task → Side → Type 0
 HoldsControl (Agent a) side = (a.over ≡ None) × ((c : AgentControl) × (a.channel ≡ Some c) × (c.port.end.side ≡ side)) × (side.state ≡ Open)
 HoldsControl task side = ⊥
 
--- the broker has this end of the control page of the domain at this place, and it is open
+-- the broker has this end of the control page of the domain at this place
 abbrev pub HoldsLine : Task → ℕ → Side → Type 0
-HoldsLine (Broker b) place side = ((line : BrokerLine) × IsAt b.lines place line × (line.end.side ≡ side)) × (side.state ≡ Open)
+HoldsLine (Broker b) place side = (line : BrokerLine) × IsAt b.lines place line × (line.end.side ≡ side)
 HoldsLine task place side = ⊥
 
--- while an agent and the broker rest, the control page between them does
+-- while an agent and the broker rest, the control page between them does, if the broker's end was open
 abbrev pub ControlPagesRest : Type 0
 ControlPagesRest = (before now : Core) (agent agent' broker broker' : Task) (place : ℕ) → AreMoments before now → RestsOn agent agent' → RestsOn broker broker'
-    → HoldsControl agent before.server → HoldsLine broker place before.client → HoldsControl agent' now.server → HoldsLine broker' place now.client → PageRested before now
+    → before.client.state ≡ Open → HoldsControl agent before.server → HoldsLine broker place before.client → HoldsControl agent' now.server → HoldsLine broker' place now.client → PageRested before now

@@ -25,12 +25,12 @@ returns-in-Sent-clause-read c = λ events h.
 pub returns-then-not-branch-clause-moves : goal.returns-then-not-branch-clause-moves
 returns-then-not-branch-clause-moves c =
     let no : c.in_ok-greet.field-0 ≡ false = cc in
-    greeting_waits_lem c.args.self.now c.greet.new.self c.greet.ensures.port (subst (λ (b : Bool). GreetsAsTold b c.args.self.now c.greet.new.self) no c.in_ok-greet.ensures.moves)
+    greeting_waits_lem c.args.self.now c.greet.new.self c.greet.ensures.«open».1 c.greet.ensures.port (subst (λ (b : Bool). GreetsAsTold b c.args.self.now c.greet.new.self) no c.in_ok-greet.ensures.moves)
 
 pub returns-in_default-clause-moves : goal.returns-in_default-clause-moves
 returns-in_default-clause-moves c =
     let yes : c.in_ok-greet.field-0 ≡ true = cc in
-    all_held_lem c.args.self.now c.greet.new.self c.greet.ensures.port (subst (λ (b : Bool). GreetsAsTold b c.args.self.now c.greet.new.self) yes c.in_ok-greet.ensures.moves) (c.in_ok-greet.ensures.greeted (ap Ok yes))
+    all_held_lem c.args.self.now c.greet.new.self c.greet.ensures.«open».1 c.greet.ensures.port (subst (λ (b : Bool). GreetsAsTold b c.args.self.now c.greet.new.self) yes c.in_ok-greet.ensures.moves) (c.in_ok-greet.ensures.greeted (ap Ok yes))
     (search rules)
 
 pub returns-in_default-2-clause-moves : goal.returns-in_default-2-clause-moves
@@ -42,7 +42,7 @@ returns-in_default-2-clause-moves c =
     let is : c.message.result.now ≡ first.letter.message = c.message.ensures first.letter first.there in
     let apart : c.in_ok-say.field-0 ≢ Sent = search rules in
     let fails = fails_to_send y.port.end z.port.end (written c.message.result.now) c.in_ok-say.field-0 apart c.in_ok-say.ensures.view c.in_ok-say.ensures.trail c.in_ok-say.ensures.cause in
-    letter_waits_lem c.args.self.now y z c.in-Some.at first.letter c.greet.ensures.port (subst (λ (b : Bool). GreetsAsTold b c.args.self.now y) yes c.in_ok-greet.ensures.moves) (c.in_ok-greet.ensures.greeted (ap Ok yes))
+    letter_waits_lem c.args.self.now y z c.in-Some.at first.letter c.say.ensures.«open».1 c.greet.ensures.port (subst (λ (b : Bool). GreetsAsTold b c.args.self.now y) yes c.in_ok-greet.ensures.moves) (c.in_ok-greet.ensures.greeted (ap Ok yes))
     (ap (λ (q : PortState). q.greeted) c.say.ensures.same) refl first.there first.ready first.before c.say.ensures.end (subst (λ (m : Message). FailsToSend (written m) y.port.end z.port.end) is fails)
 
 pub returns-in-Sent-clause-moves : goal.returns-in-Sent-clause-moves
