@@ -25,9 +25,9 @@ outcome_word Gone = codes "gone"
 
 -- why a call was refused
 abbrev pub cause_word : LineCause → List ℕ
-cause_word cause.NoDomain = codes "no_domain"
-cause_word cause.SameDomain = codes "same_domain"
-cause_word cause.NoService = codes "no_service"
+cause_word cause.NoDomain = codes "no-domain"
+cause_word cause.SameDomain = codes "same-domain"
+cause_word cause.NoService = codes "no-service"
 
 -- what came of a call; bytes are in lower case hexadecimal, and none are `-`
 abbrev pub result_words : CallResult → List (List ℕ)

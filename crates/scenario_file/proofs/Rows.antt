@@ -31,7 +31,7 @@ office orders = record {
   calls =
       plan 1 2 (codes "vault") (codes "echo") (codes "hello")
       ∷ plan 2 3 (codes "mail") (codes "upper") (codes "a")
-      ∷ plan 3 4 (codes "work") (codes "upper") (codes "b_z")
+      ∷ plan 3 4 (codes "work") (codes "upper") (codes "b-z")
       ∷ plan 4 2 (codes "mail") (codes "split") (codes "abcde")
       ∷ plan 5 3 (codes "work") (codes "split") (codes "x")
       ∷ plan 6 2 (codes "vault") (codes "echo") []
@@ -44,7 +44,7 @@ results s = map (λ line. line.result) (lines s)
 
 -- the lines tell what the services give; the call to the hostile domain has none
 office_results : (orders : Orders) → results (office orders) ≡
-    Done (pos 0) (codes "hello") [] ∷ Done (pos 0) (codes "A") [] ∷ Done (pos 0) (codes "B_Z") []
+    Done (pos 0) (codes "hello") [] ∷ Done (pos 0) (codes "A") [] ∷ Done (pos 0) (codes "B-Z") []
     ∷ Done (pos 0) (codes "ace") (codes "bd") ∷ Done (pos 0) (codes "x") [] ∷ Done (pos 0) [] [] ∷ []
 unfolding service
 office_results orders = refl

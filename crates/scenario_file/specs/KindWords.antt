@@ -9,17 +9,17 @@ use Rattle.scenario_file.specs.declared.error.ScenarioError.TheVariants as error
 -- the word for a kind
 abbrev pub kind_word : ScenarioKind → List ℕ
 kind_word kind.Toml = codes "toml"
-kind_word kind.UnknownKey = codes "unknown_key"
-kind_word kind.MissingKey = codes "missing_key"
-kind_word kind.WrongType = codes "wrong_type"
-kind_word kind.BadOrders = codes "bad_orders"
-kind_word kind.BadNumber = codes "bad_number"
-kind_word kind.BadText = codes "bad_text"
-kind_word kind.BadAct = codes "bad_act"
-kind_word kind.SameName = codes "same_name"
-kind_word kind.BadCaller = codes "bad_caller"
-kind_word kind.TwoStdin = codes "two_stdin"
-kind_word kind.TooMany = codes "too_many"
+kind_word kind.UnknownKey = codes "unknown-key"
+kind_word kind.MissingKey = codes "missing-key"
+kind_word kind.WrongType = codes "wrong-type"
+kind_word kind.BadOrders = codes "bad-orders"
+kind_word kind.BadNumber = codes "bad-number"
+kind_word kind.BadText = codes "bad-text"
+kind_word kind.BadAct = codes "bad-act"
+kind_word kind.SameName = codes "same-name"
+kind_word kind.BadCaller = codes "bad-caller"
+kind_word kind.TwoStdin = codes "two-stdin"
+kind_word kind.TooMany = codes "too-many"
 
 -- the line that tells of a fault: its path, and the word for its kind
 abbrev pub fault_line : ScenarioKind → List ℕ → List ℕ

@@ -24,10 +24,10 @@ all_printed placed = flat_map printed placed
 
 -- the line of a fault: where its message begins, the number of its type, and the length that was told
 abbrev pub fault_line : FrameFault → List ℕ
-fault_line (UnknownType at kind) = codes "fault unknown_type " ++ (decimal at ++ (codes " " ++ decimal kind))
-fault_line (TooLong at kind len) = codes "fault too_long " ++ (decimal at ++ (codes " " ++ (decimal kind ++ (codes " " ++ decimal len))))
-fault_line (BadLength at kind len) = codes "fault bad_length " ++ (decimal at ++ (codes " " ++ (decimal kind ++ (codes " " ++ decimal len))))
-fault_line (NoNul at kind) = codes "fault no_nul_lem " ++ (decimal at ++ (codes " " ++ decimal kind))
+fault_line (UnknownType at kind) = codes "fault unknown-type " ++ (decimal at ++ (codes " " ++ decimal kind))
+fault_line (TooLong at kind len) = codes "fault too-long " ++ (decimal at ++ (codes " " ++ (decimal kind ++ (codes " " ++ decimal len))))
+fault_line (BadLength at kind len) = codes "fault bad-length " ++ (decimal at ++ (codes " " ++ (decimal kind ++ (codes " " ++ decimal len))))
+fault_line (NoNul at kind) = codes "fault no-nul " ++ (decimal at ++ (codes " " ++ decimal kind))
 
 -- the last line: how many bytes aren't a whole message, or the fault
 abbrev pub last_line : Ending Fault → List ℕ

@@ -95,7 +95,7 @@ pub record RowsAreAsWorked : Type 0 where
   -- what is served
   pub served_once : (takes_all 2 two_ends (asked_at 513 ∷ asked_at 513 ∷ asked_at 515 ∷ [])).served ≡ record { from = 1; port = 513; service = codes "echo" } ∷ []
   pub not_started : takes_all 2 two_ends (message.JustExec 1 513 (codes "DEFAULT:QUBESRPC echo a") ∷ []) ≡ two_ends
-  pub no_call : takes_all 2 two_ends (message.Connect 1 514 (codes "call_1") ∷ []) ≡ two_ends
+  pub no_call : takes_all 2 two_ends (message.Connect 1 514 (codes "call-1") ∷ []) ≡ two_ends
   -- outboxes
   pub callers : outbox two short_journal 1 ≡ message.Connect 2 513 (codes "i") ∷ message.Refused (codes "j") ∷ []
   pub targets : outbox two short_journal 2 ≡ message.Exec 1 513 (codes "DEFAULT:QUBESRPC echo a") ∷ []

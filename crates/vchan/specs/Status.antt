@@ -30,26 +30,26 @@ number_of_exit None = 8
 
 -- what is wrong with a line of a script, in the program's words
 abbrev pub script_word : ScriptKind → List ℕ
-script_word script.BadHeader = codes "bad_header"
-script_word script.BadLine = codes "bad_line_lem"
-script_word script.BadNumber = codes "bad_number"
-script_word script.BadHex = codes "bad_hex"
-script_word script.BadOrders = codes "bad_orders"
-script_word script.TooManyLines = codes "too_many_lines"
-script_word script.TooManyBytes = codes "too_many_bytes"
+script_word script.BadHeader = codes "bad-header"
+script_word script.BadLine = codes "bad-line"
+script_word script.BadNumber = codes "bad-number"
+script_word script.BadHex = codes "bad-hex"
+script_word script.BadOrders = codes "bad-orders"
+script_word script.TooManyLines = codes "too-many-lines"
+script_word script.TooManyBytes = codes "too-many-bytes"
 
 -- what is wrong with a line of byte strings
 abbrev pub decode_word : DecodeKind → List ℕ
-decode_word decode.BadHex = codes "bad_hex"
-decode_word decode.TooManyLines = codes "too_many_lines"
-decode_word decode.TooManyBytes = codes "too_many_bytes"
+decode_word decode.BadHex = codes "bad-hex"
+decode_word decode.TooManyLines = codes "too-many-lines"
+decode_word decode.TooManyBytes = codes "too-many-bytes"
 
 -- what is wrong with a line of a list of clients
 abbrev pub clients_word : ClientsKind → List ℕ
-clients_word clients.BadLine = codes "bad_line_lem"
-clients_word clients.BadNumber = codes "bad_number"
-clients_word clients.BadHex = codes "bad_hex"
-clients_word clients.TooMany = codes "too_many"
+clients_word clients.BadLine = codes "bad-line"
+clients_word clients.BadNumber = codes "bad-number"
+clients_word clients.BadHex = codes "bad-hex"
+clients_word clients.TooMany = codes "too-many"
 
 -- the line that the program prints for a bad line
 abbrev pub bad_line : ℕ → List ℕ → List ℕ

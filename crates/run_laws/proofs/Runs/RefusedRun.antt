@@ -50,7 +50,7 @@ use Rattle.run_laws.specs.Run.{Run, IsRun, IsHonest, end_of, broker_end}
 use Rattle.run_laws.proofs.Runs.PageSizes.{few_words, some_page}
 
 abbrev pub ident : List ℕ
-ident = codes "call_1"
+ident = codes "call-1"
 
 pub ident_is : ident_of 1 ≡ ident
 ident_is = let one : decimal 1 ≡ 49 ∷ [] = decimal_digit 1 (omega arith) in rw one refl
@@ -84,10 +84,10 @@ answer_spelled : IsSpellable answer
 answer_spelled = (record { within = omega arith; no_nul = no_nul_lem ident refl }, tt)
 
 unfoldable pub up : List ℕ
-up = flat_map written (m.Hello 3 ∷ m.Trigger3 (codes "nobody") (codes "call_1") (codes "echo") ∷ [])
+up = flat_map written (m.Hello 3 ∷ m.Trigger3 (codes "nobody") (codes "call-1") (codes "echo") ∷ [])
 
 unfoldable pub down : List ℕ
-down = flat_map written (m.Hello 3 ∷ m.Refused (codes "call_1") ∷ [])
+down = flat_map written (m.Hello 3 ∷ m.Refused (codes "call-1") ∷ [])
 
 up_said : IsSaid 3 to_broker (asked ∷ []) up
 unfolding up
@@ -215,7 +215,7 @@ broker orders = record {
 
 reported : (orders : Orders) (heard : List Message) → heard ≡ answer ∷ [] → EachPair (ReportsCall (agent_plan (one orders) 1) (end_of (one_run orders) 1)) (takes_all 1 (nothing_heard (agent_plan (one orders) 1)) heard).asked (record { number = 1; end = WasRefused } ∷ [])
 reported orders heard is =
-    let same : bytes_eq (ident_of 1) (codes "call_1") ≡ true = ap (λ x. bytes_eq x (codes "call_1")) ident_is ∙ same_bytes (codes "call_1") in
+    let same : bytes_eq (ident_of 1) (codes "call-1") ≡ true = ap (λ x. bytes_eq x (codes "call-1")) ident_is ∙ same_bytes (codes "call-1") in
     rw (is, same) ((refl, tt), tt)
 
 served_none : (orders : Orders) (heard : List Message) → heard ≡ answer ∷ [] → (takes_all 1 (nothing_heard (agent_plan (one orders) 1)) heard).served ≡ []

@@ -81,10 +81,10 @@ exec_spelled : IsSpellable exec
 exec_spelled = (record { within = omega arith; no_nul = no_nul_lem (exec_line (codes "echo") (codes "a")) refl }, (omega arith, omega arith))
 
 unfoldable pub up : List ℕ
-up = flat_map written (m.Hello 3 ∷ m.Trigger3 (codes "b") (codes "call_1") (codes "echo") ∷ m.Terminated 2 513 ∷ [])
+up = flat_map written (m.Hello 3 ∷ m.Trigger3 (codes "b") (codes "call-1") (codes "echo") ∷ m.Terminated 2 513 ∷ [])
 
 unfoldable pub down : List ℕ
-down = flat_map written (m.Hello 3 ∷ m.Connect 2 513 (codes "call_1") ∷ [])
+down = flat_map written (m.Hello 3 ∷ m.Connect 2 513 (codes "call-1") ∷ [])
 
 unfoldable pub told : List ℕ
 told = flat_map written (m.Hello 3 ∷ m.Exec 1 513 (exec_line (codes "echo") (codes "a")) ∷ [])
@@ -286,8 +286,8 @@ broker orders = record {
 
 -- ---- the agents
 
-same_ident : bytes_eq (ident_of 1) (codes "call_1") ≡ true
-same_ident = ap (λ x. bytes_eq x (codes "call_1")) ident_is ∙ same_bytes (codes "call_1")
+same_ident : bytes_eq (ident_of 1) (codes "call-1") ≡ true
+same_ident = ap (λ x. bytes_eq x (codes "call-1")) ident_is ∙ same_bytes (codes "call-1")
 
 heard_one : (orders : Orders) (heard : List Message) → heard ≡ connect ∷ []
     → takes_all 1 (nothing_heard (agent_plan (two orders) 1)) heard ≡ record { asked = record { call = the_call; answer = At 2 513 } ∷ []; unused = []; served = [] }
