@@ -4,7 +4,7 @@ use Rattle.std.proofs.Math.Seq.{take-append_seam}
 use Rattle.std.specs.List.{AllByRecursion}
 use Rattle.list_laws.proofs.Each.{each_append, each_front, each_back, each_weaker}
 use Rattle.list_laws.proofs.Places.{get_front}
-use mathlib.Core.Option.{some, some_injective, some_ne_none}
+use mathlib.Core.Option.{some, some-injective, some-ne-none}
 use lib.ListN.{get_elem?}
 use Rattle.crossbeam_queue.specs.Fifo.{Pushes, Pops, Forks, Merges, Learns}
 use Rattle.crossbeam_queue.proofs.Lists.{at_set, at_snoc}
@@ -27,8 +27,8 @@ module _ {T D : Type 0} (owes : T → D → Type 0) where
       ⊎_elim (λ (x : (j ≡ port) × (w ≡ u)). subst (Fits laid) x.1 mine) (λ (x : (j ≢ port) × (get_elem? views j ≡ some u)). others j u x.0 x.1) (at_set views port j w u e)
 
   begins_at : (pass : ℕ) (v : Holding T) → get_elem? (holding all_parts [] [] ∷ []) pass ≡ some v → Fits [] v
-  begins_at zero v at = subst (Fits []) (some_injective _ v at) (record { knows = λ _. refl; idle = λ none. absurd (omega arith); placed = tt })
-  begins_at (suc pass) v at = absurd (some_ne_none v (sym at))
+  begins_at zero v at = subst (Fits []) (some-injective _ v at) (record { knows = λ _. refl; idle = λ none. absurd (omega arith); placed = tt })
+  begins_at (suc pass) v at = absurd (some-ne-none v (sym at))
 
   pub begins : Holds owes [] (holding all_parts [] [] ∷ [])
   begins = record { laid = []; parts = refl; once = λ weight. refl; waiting = tt; hands = begins_at }

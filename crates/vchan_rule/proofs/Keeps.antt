@@ -1,6 +1,6 @@
 -- Each step of the table keeps the rule, since it is an event of the protocol.
 use Rattle.std.proofs.Common.{◌≡◌, ℕ, true, false, length, zero, suc, List, [], ◌∷◌, ◌++◌, set, sym, refl, ap, ◌∙◌, subst, ⊎_elim, slice_index}
-use mathlib.Core.Option.{some, none, some_ne_none}
+use mathlib.Core.Option.{some, none, some-ne-none}
 use lib.ListN.{get_elem?}
 use lib.Seq.{set-get_or}
 use Rattle.atomic_table.proofs.Lists.{set_again}
@@ -57,16 +57,16 @@ sits_parted key words zero v server client k at =
 sits_parted key words (suc zero) v server client k at =
     let e = one_is client v at in
     record { who = Client; theirs = server; views_are = ap (λ (z : Side). One server ∷ One z ∷ []) e; id_is = refl; came = subst (λ (z : Side). MayCome (core key words server z)) e k }
-sits_parted key words (suc (suc n)) v server client k at = absurd (some_ne_none (One v) (sym at))
+sits_parted key words (suc (suc n)) v server client k at = absurd (some-ne-none (One v) (sym at))
 
 no_one_whole : (key : Opening) (id : ℕ) (v : Side) → get_elem? (Whole key.orders key.start ∷ []) id ≡ some (One v) → ⊥
 no_one_whole key zero v at = cc
-no_one_whole key (suc n) v at = some_ne_none (One v) (sym at)
+no_one_whole key (suc n) v at = some-ne-none (One v) (sym at)
 
 no_one_done : (id : ℕ) (v server client : Side) → get_elem? (Both server client ∷ Spent ∷ []) id ≡ some (One v) → ⊥
 no_one_done zero v server client at = cc
 no_one_done (suc zero) v server client at = cc
-no_one_done (suc (suc n)) v server client at = some_ne_none (One v) (sym at)
+no_one_done (suc (suc n)) v server client at = some-ne-none (One v) (sym at)
 
 sits : (key : Opening) (words : List ℕ) (views : List View) (id : ℕ) (v : Side) → Shown key words views → get_elem? views id ≡ some (One v) → Sits key words views id v
 sits key words views id v (whole key2 words2 views2 is k) at = absurd (no_one_whole key id v (subst (λ (z : List View). get_elem? z id ≡ some (One v)) is at))
@@ -156,12 +156,12 @@ makes_at key slots id me s op i first f g at fair more is here given leaves_it t
 no_whole_parted : (id : ℕ) (o : Orders) (n : ℕ) (a b : Side) → get_elem? (One a ∷ One b ∷ []) id ≡ some (Whole o n) → ⊥
 no_whole_parted zero o n a b at = cc
 no_whole_parted (suc zero) o n a b at = cc
-no_whole_parted (suc (suc k)) o n a b at = some_ne_none (Whole o n) (sym at)
+no_whole_parted (suc (suc k)) o n a b at = some-ne-none (Whole o n) (sym at)
 
 no_whole_done : (id : ℕ) (o : Orders) (n : ℕ) (a b : Side) → get_elem? (Both a b ∷ Spent ∷ []) id ≡ some (Whole o n) → ⊥
 no_whole_done zero o n a b at = cc
 no_whole_done (suc zero) o n a b at = cc
-no_whole_done (suc (suc k)) o n a b at = some_ne_none (Whole o n) (sym at)
+no_whole_done (suc (suc k)) o n a b at = some-ne-none (Whole o n) (sym at)
 
 parts : (key : Opening) (words : List ℕ) (id : ℕ) (o : Orders) (n : ℕ) → get_elem? (Whole key.orders key.start ∷ []) id ≡ some (Whole o n) → MayCome (core key words (new_server key.orders key.start) (new_client key.orders key.start)) →
     Shown key words (set (Whole key.orders key.start ∷ []) id (server_half (Whole o n)) ++ client_half (Whole o n) ∷ [])
@@ -169,7 +169,7 @@ parts key words zero o n at k =
     let os : key.orders ≡ o = cc in
     let ns : key.start ≡ n = cc in
     parted key words _ (new_server key.orders key.start) (new_client key.orders key.start) (λ i. One (new_server (sym os i) (sym ns i)) ∷ One (new_client (sym os i) (sym ns i)) ∷ []) k
-parts key words (suc i) o n at k = absurd (some_ne_none (Whole o n) (sym at))
+parts key words (suc i) o n at k = absurd (some-ne-none (Whole o n) (sym at))
 
 halves : (key : Opening) (words : List ℕ) (views : List View) (id : ℕ) (o : Orders) (n : ℕ) → Shown key words views → get_elem? views id ≡ some (Whole o n) →
     Shown key words (set views id (server_half (Whole o n)) ++ client_half (Whole o n) ∷ [])
@@ -243,7 +243,7 @@ merged : (key : Opening) (words : List ℕ) (other : ℕ) (a b c : Side) → May
     Shown key words (set (Both a b ∷ One c ∷ []) other Spent)
 merged key words zero a b c k apart there = absurd (apart refl)
 merged key words (suc zero) a b c k apart there = done key words _ a b refl (subst (λ (z : Side). MayCome (core key words a z)) (one_is c b there) k)
-merged key words (suc (suc n)) a b c k apart there = absurd (some_ne_none (One b) (sym there))
+merged key words (suc (suc n)) a b c k apart there = absurd (some-ne-none (One b) (sym there))
 
 merges : (key : Opening) (words : List ℕ) (views : List View) (id other : ℕ) (a b : Side) → Shown key words views → get_elem? views id ≡ some (One a) → ¬ (other ≡ id) → get_elem? (set views id (Both a b)) other ≡ some (One b) →
     a.role ≡ Server → Shown key words (set (set views id (Both a b)) other Spent)
@@ -267,17 +267,17 @@ both_is a b x y e = (cc, cc)
 
 no_both_whole : (o : Orders) (n id : ℕ) (a b : Side) → get_elem? (Whole o n ∷ []) id ≡ some (Both a b) → ⊥
 no_both_whole o n zero a b at = cc
-no_both_whole o n (suc k) a b at = some_ne_none (Both a b) (sym at)
+no_both_whole o n (suc k) a b at = some-ne-none (Both a b) (sym at)
 
 no_both_parted : (id : ℕ) (x y a b : Side) → get_elem? (One x ∷ One y ∷ []) id ≡ some (Both a b) → ⊥
 no_both_parted zero x y a b at = cc
 no_both_parted (suc zero) x y a b at = cc
-no_both_parted (suc (suc k)) x y a b at = some_ne_none (Both a b) (sym at)
+no_both_parted (suc (suc k)) x y a b at = some-ne-none (Both a b) (sym at)
 
 done_came : (key : Opening) (words : List ℕ) (id : ℕ) (x y a b : Side) → get_elem? (Both x y ∷ Spent ∷ []) id ≡ some (Both a b) → MayCome (core key words x y) → MayCome (core key words a b)
 done_came key words zero x y a b at k = let e = both_is x a y b at in subst (λ (z : Side × Side). MayCome (core key words z.0 z.1)) (λ i. (e.0 i, e.1 i)) k
 done_came key words (suc zero) x y a b at k = absurd (cc)
-done_came key words (suc (suc n)) x y a b at k = absurd (some_ne_none (Both a b) (sym at))
+done_came key words (suc (suc n)) x y a b at k = absurd (some-ne-none (Both a b) (sym at))
 
 last_came : (key : Opening) (words : List ℕ) (views : List View) (id : ℕ) (a b : Side) → Shown key words views → get_elem? views id ≡ some (Both a b) → MayCome (core key words a b)
 last_came key words views id a b (whole key2 words2 views2 is k) at = absurd (no_both_whole _ _ id a b (subst (λ (z : List View). get_elem? z id ≡ some (Both a b)) is at))
