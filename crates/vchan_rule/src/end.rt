@@ -27,8 +27,8 @@ use crate::rule::TableSeat;
 use crate::turned::{Retired, TurnedEnd};
 use crate::words::EndWords;
 use ring_words::{Orders, Role};
-use std::marker::{Brand, Model};
-use std::sync::ledger::{Blank, Ledger};
+use std::marker::Model;
+use std::sync::ledger::Ledger;
 use vchan_core::{Answer, Call, EndState, Machine, Steps};
 
 /// An honest end of a page. Between two calls it is idle. A call is begun, and then made event by event;
@@ -189,26 +189,17 @@ impl<'p> End<'p> {
     }
 
     /// Begins a call, and makes its first events on a machine of its own, as long as the compiler can see their
-    /// order. `steps` counts them.
+    /// order.
     #[inline(always)]
-    fn start<L: Ledger, const WAY: u8>(
-        &mut self,
-        call: Call,
-        payload: &[u8],
-        buf: &mut [u8],
-        steps: &mut Steps<L>,
-    ) -> Option<Answer>
+    fn start<const WAY: u8>(&mut self, call: Call, payload: &[u8], buf: &mut [u8]) -> Option<Answer>
         requires { MayMake self.old call payload.now buf.old }
         ensures starts { Starts self.old call payload.now buf.old result self.new buf.new }
         ensures honest { self.old.side.turned ≡ false }
-        ensures steps { steps.new ≡ steps.old + length (seen self.new payload.now).trail }
     {
         let words = self.words.get();
         let mut machine = self.machine.inside(call);
         self.seat.begin(call);
-        let first = self
-            .seat
-            .quickly::<L, WAY>(words, &mut machine, payload, buf, steps);
+        let first = self.seat.quickly::<WAY>(words, &mut machine, payload, buf);
         if let Some(answer) = first {
             self.machine.take_over(&machine);
             return Some(answer);
@@ -217,33 +208,41 @@ impl<'p> End<'p> {
         None
     }
 
-    /// Makes a whole call of this way; `steps` counts its events.
-    fn whole_call<L: Ledger, const WAY: u8>(
-        &mut self,
-        call: Call,
-        payload: &[u8],
-        buf: &mut [u8],
-        steps: &mut Steps<L>,
-    ) -> Answer
+    /// Makes a whole call of this way.
+    fn whole_call<const WAY: u8>(&mut self, call: Call, payload: &[u8], buf: &mut [u8]) -> Answer
         requires { MayMake self.old call payload.now buf.old }
-        ensures called { HasCalled self.old call payload.now buf.old self.new buf.new result }
-        ensures steps { steps.new ≡ steps.old + length self.new.side.trail }
+        ensures { HasCalled self.old call payload.now buf.old self.new buf.new result }
     {
-        if let Some(answer) = self.start::<L, WAY>(call, payload, buf, steps) {
+        if let Some(answer) = self.start::<WAY>(call, payload, buf) {
             return answer;
         }
         'events: loop {
-            steps.tick();
             if let Some(answer) = self.step(payload, buf) {
                 return answer;
             }
-            let moved = self.move_bytes(payload, buf);
-            steps.add(moved);
+            self.move_bytes(payload, buf);
         }
     }
 
-    /// Makes a whole call; `steps` counts its events.
+    /// Makes a whole call. Its events become the end's trail, and the lists grow as its answer tells.
     #[inline(always)]
+    pub fn do_call(&mut self, call: Call, payload: &[u8], buf: &mut [u8]) -> Answer
+        requires { MayMake self.old call payload.now buf.old }
+        ensures { HasCalled self.old call payload.now buf.old self.new buf.new result }
+    {
+        match call {
+            Call::Write { len } => self.whole_call::<WRITES>(Call::Write { len }, payload, buf),
+            Call::Send { len } => self.whole_call::<SENDS>(Call::Send { len }, payload, buf),
+            Call::Read { most } => self.whole_call::<READS>(Call::Read { most }, payload, buf),
+            Call::Drain { most } => self.whole_call::<DRAINS>(Call::Drain { most }, payload, buf),
+            Call::Connect => self.whole_call::<CONNECTS>(Call::Connect, payload, buf),
+            Call::Retire => self.whole_call::<RETIRES>(Call::Retire, payload, buf),
+            Call::TakeEvent => self.whole_call::<SIGNALS>(Call::TakeEvent, payload, buf),
+            _ => self.whole_call::<OTHERWISE>(call, payload, buf),
+        }
+    }
+
+    /// Makes a whole call event by event; `steps` counts them. `do_call` is quicker.
     pub fn counted_call<L: Ledger>(
         &mut self,
         call: Call,
@@ -255,54 +254,13 @@ impl<'p> End<'p> {
         ensures called { HasCalled self.old call payload.now buf.old self.new buf.new result }
         ensures steps { steps.new ≡ steps.old + length self.new.side.trail }
     {
-        match call {
-            Call::Write { len } => {
-                self.whole_call::<L, WRITES>(Call::Write { len }, payload, buf, steps)
+        self.begin(call);
+        'events: loop {
+            steps.tick();
+            if let Some(answer) = self.step(payload, buf) {
+                return answer;
             }
-            Call::Send { len } => {
-                self.whole_call::<L, SENDS>(Call::Send { len }, payload, buf, steps)
-            }
-            Call::Read { most } => {
-                self.whole_call::<L, READS>(Call::Read { most }, payload, buf, steps)
-            }
-            Call::Drain { most } => {
-                self.whole_call::<L, DRAINS>(Call::Drain { most }, payload, buf, steps)
-            }
-            Call::Connect => self.whole_call::<L, CONNECTS>(Call::Connect, payload, buf, steps),
-            Call::Retire => self.whole_call::<L, RETIRES>(Call::Retire, payload, buf, steps),
-            Call::TakeEvent => {
-                self.whole_call::<L, SIGNALS>(Call::TakeEvent, payload, buf, steps)
-            }
-            _ => self.whole_call::<L, OTHERWISE>(call, payload, buf, steps),
         }
-    }
-
-    /// Makes a whole call. Its events become the end's trail, and the lists grow as its answer tells.
-    #[inline(always)]
-    pub fn do_call(&mut self, call: Call, payload: &[u8], buf: &mut [u8]) -> Answer
-        requires { MayMake self.old call payload.now buf.old }
-        ensures { HasCalled self.old call payload.now buf.old self.new buf.new result }
-    {
-        self.uncounted::<Brand>(call, payload, buf, Blank::new(1))
-    }
-
-    /// Makes a whole call, with a counter of its own.
-    #[inline(always)]
-    fn uncounted<L: Ledger>(
-        &mut self,
-        call: Call,
-        payload: &[u8],
-        buf: &mut [u8],
-        blank: Blank,
-    ) -> Answer
-        requires name { blank.name ≡ L.name }
-        requires parts { blank.parts ≡ L.parts }
-        requires some { 0 < L.parts }
-        requires may { MayMake self.old call payload.now buf.old }
-        ensures { HasCalled self.old call payload.now buf.old self.new buf.new result }
-    {
-        let mut steps = Steps::<L>::new(blank);
-        self.counted_call(call, payload, buf, &mut steps)
     }
 
     /// Turns the end over to a hostile user, with one event: a load of the consumer index of the ring that it

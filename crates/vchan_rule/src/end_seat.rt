@@ -26,9 +26,8 @@ use crate::words::EndWords;
 use ring_words::{Layout, Orders, Role, WordName};
 use std::marker::{Brand, Model};
 use std::snapshot::Snapshot;
-use std::sync::ledger::Ledger;
 use vchan_core::words::{cons_word, written_ring};
-use vchan_core::{Ahead, Answer, Call, Machine, Op, Steps};
+use vchan_core::{Ahead, Answer, Call, Machine, Op};
 
 /// The ways of a whole call: most calls make most of their events in an order that the compiler can see.
 pub(crate) const WRITES: u8 = 0;
@@ -232,213 +231,158 @@ impl EndSeat {
         }
     }
 
-    /// Makes the next event of the call under way; `steps` counts it.
+    /// Makes the next event of a call, whichever call that is.
     #[inline(always)]
-    fn counted_event<L: Ledger>(
+    fn next_event(
         &mut self,
         words: &PageWords,
         machine: &mut Machine,
         payload: &[u8],
         buf: &mut [u8],
-        steps: &mut Steps<L>,
     ) -> Option<Answer>
         requires words { AreWordsOf words.now.table_id words.now.key self.old }
         requires ready { IsReady (driven words.now.key.start self.old machine.old) payload.now buf.old }
         ensures words { AreWordsOf words.now.table_id words.now.key self.new }
         ensures begun { self.new.begun ≡ None }
         ensures goes { Goes (driven words.now.key.start self.old machine.old) payload.now buf.old result (driven words.now.key.start self.new machine.new) buf.new }
-        ensures steps { steps.new + length (seen (driven words.now.key.start self.old machine.old) payload.now).trail ≡ steps.old + length (seen (driven words.now.key.start self.new machine.new) payload.now).trail }
     {
-        steps.tick();
         self.event(words, machine, payload, buf)
-    }
-
-    /// Makes the next events as long as they are on bytes of a ring; `steps` counts them.
-    #[inline(always)]
-    fn counted_bytes<L: Ledger>(
-        &mut self,
-        words: &PageWords,
-        machine: &mut Machine,
-        payload: &[u8],
-        buf: &mut [u8],
-        steps: &mut Steps<L>,
-    )
-        requires words { AreWordsOf words.now.table_id words.now.key self.old }
-        requires ready { IsReady (driven words.now.key.start self.old machine.old) payload.now buf.old }
-        requires begun { self.old.begun ≡ None }
-        ensures words { AreWordsOf words.now.table_id words.now.key self.new }
-        ensures begun { self.new.begun ≡ None }
-        ensures goes { Goes (driven words.now.key.start self.old machine.old) payload.now buf.old None (driven words.now.key.start self.new machine.new) buf.new }
-        ensures steps { steps.new + length (seen (driven words.now.key.start self.old machine.old) payload.now).trail ≡ steps.old + length (seen (driven words.now.key.start self.new machine.new) payload.now).trail }
-    {
-        let moved = self.move_bytes(words, machine, payload, buf);
-        steps.add(moved);
     }
 
     /// Makes a look at the peer's index, then moves the bytes, stores the index that shows or releases them,
     /// tests whether the peer asked for a signal, and signals it: the events of most calls that move bytes.
     #[inline(always)]
-    fn look_and_move<L: Ledger, const WAY: u8>(
+    fn look_and_move<const WAY: u8>(
         &mut self,
         words: &PageWords,
         machine: &mut Machine,
         payload: &[u8],
         buf: &mut [u8],
-        steps: &mut Steps<L>,
     ) -> Option<Answer>
         requires words { AreWordsOf words.now.table_id words.now.key self.old }
         requires ready { IsReady (driven words.now.key.start self.old machine.old) payload.now buf.old }
         ensures words { AreWordsOf words.now.table_id words.now.key self.new }
         ensures goes { Goes (driven words.now.key.start self.old machine.old) payload.now buf.old result (driven words.now.key.start self.new machine.new) buf.new }
-        ensures steps { steps.new + length (seen (driven words.now.key.start self.old machine.old) payload.now).trail ≡ steps.old + length (seen (driven words.now.key.start self.new machine.new) payload.now).trail }
     {
-        if let Some(answer) = self.counted_event(words, machine, payload, buf, steps) {
+        if let Some(answer) = self.next_event(words, machine, payload, buf) {
             return Some(answer);
         }
-        self.counted_bytes(words, machine, payload, buf, steps);
-        self.three_events::<L, WAY>(words, machine, payload, buf, steps)
+        self.move_bytes(words, machine, payload, buf);
+        self.three_events::<WAY>(words, machine, payload, buf)
     }
 
     #[inline(always)]
-    fn two_events<L: Ledger, const WAY: u8>(
+    fn two_events<const WAY: u8>(
         &mut self,
         words: &PageWords,
         machine: &mut Machine,
         payload: &[u8],
         buf: &mut [u8],
-        steps: &mut Steps<L>,
     ) -> Option<Answer>
         requires words { AreWordsOf words.now.table_id words.now.key self.old }
         requires ready { IsReady (driven words.now.key.start self.old machine.old) payload.now buf.old }
         ensures words { AreWordsOf words.now.table_id words.now.key self.new }
         ensures goes { Goes (driven words.now.key.start self.old machine.old) payload.now buf.old result (driven words.now.key.start self.new machine.new) buf.new }
-        ensures steps { steps.new + length (seen (driven words.now.key.start self.old machine.old) payload.now).trail ≡ steps.old + length (seen (driven words.now.key.start self.new machine.new) payload.now).trail }
     {
-        if let Some(answer) = self.counted_event(words, machine, payload, buf, steps) {
+        if let Some(answer) = self.next_event(words, machine, payload, buf) {
             return Some(answer);
         }
-        self.counted_event(words, machine, payload, buf, steps)
+        self.next_event(words, machine, payload, buf)
     }
 
     #[inline(always)]
-    fn three_events<L: Ledger, const WAY: u8>(
+    fn three_events<const WAY: u8>(
         &mut self,
         words: &PageWords,
         machine: &mut Machine,
         payload: &[u8],
         buf: &mut [u8],
-        steps: &mut Steps<L>,
     ) -> Option<Answer>
         requires words { AreWordsOf words.now.table_id words.now.key self.old }
         requires ready { IsReady (driven words.now.key.start self.old machine.old) payload.now buf.old }
         ensures words { AreWordsOf words.now.table_id words.now.key self.new }
         ensures goes { Goes (driven words.now.key.start self.old machine.old) payload.now buf.old result (driven words.now.key.start self.new machine.new) buf.new }
-        ensures steps { steps.new + length (seen (driven words.now.key.start self.old machine.old) payload.now).trail ≡ steps.old + length (seen (driven words.now.key.start self.new machine.new) payload.now).trail }
     {
-        if let Some(answer) = self.two_events::<L, WAY>(words, machine, payload, buf, steps) {
+        if let Some(answer) = self.two_events::<WAY>(words, machine, payload, buf) {
             return Some(answer);
         }
-        self.counted_event(words, machine, payload, buf, steps)
+        self.next_event(words, machine, payload, buf)
     }
 
     /// Makes two events, and two more if the call isn't over then.
     #[inline(always)]
-    fn four_events<L: Ledger, const FIRST: u8, const THEN: u8>(
+    fn four_events<const FIRST: u8, const THEN: u8>(
         &mut self,
         words: &PageWords,
         machine: &mut Machine,
         payload: &[u8],
         buf: &mut [u8],
-        steps: &mut Steps<L>,
     ) -> Option<Answer>
         requires words { AreWordsOf words.now.table_id words.now.key self.old }
         requires ready { IsReady (driven words.now.key.start self.old machine.old) payload.now buf.old }
         ensures words { AreWordsOf words.now.table_id words.now.key self.new }
         ensures goes { Goes (driven words.now.key.start self.old machine.old) payload.now buf.old result (driven words.now.key.start self.new machine.new) buf.new }
-        ensures steps { steps.new + length (seen (driven words.now.key.start self.old machine.old) payload.now).trail ≡ steps.old + length (seen (driven words.now.key.start self.new machine.new) payload.now).trail }
     {
-        if let Some(answer) = self.two_events::<L, FIRST>(words, machine, payload, buf, steps) {
+        if let Some(answer) = self.two_events::<FIRST>(words, machine, payload, buf) {
             return Some(answer);
         }
-        self.two_events::<L, THEN>(words, machine, payload, buf, steps)
+        self.two_events::<THEN>(words, machine, payload, buf)
     }
 
     /// Goes on with a drain that has begun: a look, then the events of `look_and_move` if it found bytes. Else
     /// it asks for a signal and looks again, and if nothing came it checks whether the peer is live, and whether
     /// it is gone.
     #[inline(always)]
-    fn look_and_drain<L: Ledger>(
+    fn look_and_drain(
         &mut self,
         words: &PageWords,
         machine: &mut Machine,
         payload: &[u8],
         buf: &mut [u8],
-        steps: &mut Steps<L>,
     ) -> Option<Answer>
         requires words { AreWordsOf words.now.table_id words.now.key self.old }
         requires ready { IsReady (driven words.now.key.start self.old machine.old) payload.now buf.old }
         ensures words { AreWordsOf words.now.table_id words.now.key self.new }
         ensures goes { Goes (driven words.now.key.start self.old machine.old) payload.now buf.old result (driven words.now.key.start self.new machine.new) buf.new }
-        ensures steps { steps.new + length (seen (driven words.now.key.start self.old machine.old) payload.now).trail ≡ steps.old + length (seen (driven words.now.key.start self.new machine.new) payload.now).trail }
     {
-        if let Some(answer) = self.counted_event(words, machine, payload, buf, steps) {
+        if let Some(answer) = self.next_event(words, machine, payload, buf) {
             return Some(answer);
         }
         if let Ahead::Elsewhere = machine.ahead() {
-            return self.four_events::<L, ASKS, LOOKS>(words, machine, payload, buf, steps);
+            return self.four_events::<ASKS, LOOKS>(words, machine, payload, buf);
         }
-        self.counted_bytes(words, machine, payload, buf, steps);
-        self.three_events::<L, DRAINS>(words, machine, payload, buf, steps)
-    }
-
-    /// Goes on with a write or a send that has begun: it checks whether the peer is live, and then as
-    /// `look_and_move`.
-    #[inline(always)]
-    fn live_and_move<L: Ledger, const WAY: u8>(
-        &mut self,
-        words: &PageWords,
-        machine: &mut Machine,
-        payload: &[u8],
-        buf: &mut [u8],
-        steps: &mut Steps<L>,
-    ) -> Option<Answer>
-        requires words { AreWordsOf words.now.table_id words.now.key self.old }
-        requires ready { IsReady (driven words.now.key.start self.old machine.old) payload.now buf.old }
-        ensures words { AreWordsOf words.now.table_id words.now.key self.new }
-        ensures goes { Goes (driven words.now.key.start self.old machine.old) payload.now buf.old result (driven words.now.key.start self.new machine.new) buf.new }
-        ensures steps { steps.new + length (seen (driven words.now.key.start self.old machine.old) payload.now).trail ≡ steps.old + length (seen (driven words.now.key.start self.new machine.new) payload.now).trail }
-    {
-        if let Some(answer) = self.counted_event(words, machine, payload, buf, steps) {
-            return Some(answer);
-        }
-        self.look_and_move::<L, WAY>(words, machine, payload, buf, steps)
+        self.move_bytes(words, machine, payload, buf);
+        self.three_events::<DRAINS>(words, machine, payload, buf)
     }
 
     /// Makes the first events of a call of this way that was just begun; most calls are over then. It makes no
     /// event of a call of no such way.
     #[inline(always)]
-    pub(crate) fn quickly<L: Ledger, const WAY: u8>(
+    pub(crate) fn quickly<const WAY: u8>(
         &mut self,
         words: &PageWords,
         machine: &mut Machine,
         payload: &[u8],
         buf: &mut [u8],
-        steps: &mut Steps<L>,
     ) -> Option<Answer>
         requires words { AreWordsOf words.now.table_id words.now.key self.old }
         requires ready { IsReady (driven words.now.key.start self.old machine.old) payload.now buf.old }
         ensures goes { Goes (driven words.now.key.start self.old machine.old) payload.now buf.old result (driven words.now.key.start self.new machine.new) buf.new }
         ensures words { AreWordsOf words.now.table_id words.now.key self.new }
-        ensures steps { steps.new + length (seen (driven words.now.key.start self.old machine.old) payload.now).trail ≡ steps.old + length (seen (driven words.now.key.start self.new machine.new) payload.now).trail }
     {
         match WAY {
-            WRITES => self.live_and_move::<L, WRITES>(words, machine, payload, buf, steps),
-            SENDS => self.live_and_move::<L, SENDS>(words, machine, payload, buf, steps),
-            READS => self.look_and_move::<L, READS>(words, machine, payload, buf, steps),
-            DRAINS => self.look_and_drain(words, machine, payload, buf, steps),
-            CONNECTS => self.three_events::<L, CONNECTS>(words, machine, payload, buf, steps),
-            RETIRES => self.four_events::<L, RETIRES, GOES>(words, machine, payload, buf, steps),
-            SIGNALS => self.counted_event(words, machine, payload, buf, steps),
+            WRITES | SENDS => {
+                // The first event is the check whether the peer is live.
+                if let Some(answer) = self.next_event(words, machine, payload, buf) {
+                    return Some(answer);
+                }
+                self.look_and_move::<WAY>(words, machine, payload, buf)
+            }
+            READS => self.look_and_move::<READS>(words, machine, payload, buf),
+            DRAINS => self.look_and_drain(words, machine, payload, buf),
+            CONNECTS => self.three_events::<CONNECTS>(words, machine, payload, buf),
+            RETIRES => self.four_events::<RETIRES, GOES>(words, machine, payload, buf),
+            SIGNALS => self.next_event(words, machine, payload, buf),
             _ => None,
         }
     }

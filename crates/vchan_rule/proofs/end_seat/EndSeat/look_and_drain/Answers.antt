@@ -1,19 +1,23 @@
+use Rattle.std.proofs.Common.{refl}
 use Rattle.vchan_rule.specs.Seated.{driven}
-use Rattle.vchan_rule.proofs.GoingLaws.{goes_then}
+use Rattle.vchan_rule.proofs.GoingLaws.{goes_along, goes_then}
 use Rattle.vchan_rule.proofs.end_seat.EndSeat.look_and_drain.Goals as goal
 
 pub returns-in-Elsewhere-clause-goes : goal.returns-in-Elsewhere-clause-goes
-returns-in-Elsewhere-clause-goes g c =
+returns-in-Elsewhere-clause-goes c =
     let was = driven c.args.words.now.key.start c.args.self.now c.args.machine.now in
-    let one = driven c.args.words.now.key.start c.counted_event.new.self c.counted_event.new.machine in
+    let one = driven c.args.words.now.key.start c.next_event.new.self c.next_event.new.machine in
     let two = driven c.args.words.now.key.start c.four_events.new.self c.four_events.new.machine in
-    goes_then was c.args.payload.now c.args.buf.now one c.counted_event.new.buf c.four_events.result two c.four_events.new.buf c.in_default.ensures.goes c.four_events.ensures.goes
+    goes_then was c.args.payload.now c.args.buf.now one c.next_event.new.buf c.four_events.result two c.four_events.new.buf c.in_default.ensures.goes c.four_events.ensures.goes
 
 pub returns-clause-goes : goal.returns-clause-goes
-returns-clause-goes g c =
+returns-clause-goes c =
     let was = driven c.args.words.now.key.start c.args.self.now c.args.machine.now in
-    let one = driven c.args.words.now.key.start c.counted_event.new.self c.counted_event.new.machine in
-    let two = driven c.args.words.now.key.start c.counted_bytes.new.self c.counted_bytes.new.machine in
+    let one = driven c.args.words.now.key.start c.next_event.new.self c.next_event.new.machine in
+    let two = driven c.args.words.now.key.start c.move_bytes.new.self c.move_bytes.new.machine in
     let three = driven c.args.words.now.key.start c.three_events.new.self c.three_events.new.machine in
-    goes_then was c.args.payload.now c.args.buf.now one c.counted_event.new.buf c.three_events.result three c.three_events.new.buf c.in_default.ensures.goes
-    (goes_then one c.args.payload.now c.counted_event.new.buf two c.counted_bytes.new.buf c.three_events.result three c.three_events.new.buf c.counted_bytes.ensures.goes c.three_events.ensures.goes)
+    let m = c.move_bytes.ensures in
+    let ready = c.in_default.ensures.goes.ready refl in
+    let along = goes_along one c.args.payload.now c.next_event.new.buf two c.move_bytes.new.buf c.move_bytes.result ready c.next_event.ensures.begun m.along m.same m.agrees m.busy m.begun m.payload m.out m.into in
+    goes_then was c.args.payload.now c.args.buf.now one c.next_event.new.buf c.three_events.result three c.three_events.new.buf c.in_default.ensures.goes
+    (goes_then one c.args.payload.now c.next_event.new.buf two c.move_bytes.new.buf c.three_events.result three c.three_events.new.buf along c.three_events.ensures.goes)
