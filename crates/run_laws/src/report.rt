@@ -1,6 +1,9 @@
-//! The lines of the report of a run.
+//! The report of a run: its lines and its pages.
+use crate::standing::Standing;
 use qrexec_frame::{Bytes, Text};
 use scenario_file::LineCause;
+use std::marker::Model;
+use task_duties::PagePlace;
 
 /// How a session with a hostile domain came out.
 #[derive(Clone, Copy, Debug, PartialEq, Eq)]
@@ -76,4 +79,41 @@ pub struct ServedLine {
     pub outcome: MixedOutcome,
     /// All bytes that the serving domain got.
     pub got: Bytes,
+}
+
+/// A page that is done with, and its place.
+#[derive(Drop)]
+pub struct SettledPage {
+    /// The page's place among the pages of the run.
+    pub place: PagePlace,
+    /// What is known of it.
+    pub settled: Standing,
+}
+
+impl Model for SettledPage {
+    ghost use Rattle.run_laws.specs.Report.{SettledPage as PageOfReport};
+
+    ghost Value = { PageOfReport };
+
+    ghost view = { λ p. record { place = p.place; settled = p.settled } };
+}
+
+/// The report of a run. Contracts see it as a record in which the lists are plain lists.
+#[derive(Drop)]
+pub struct Report {
+    /// A line for each call, in the order of the scenario.
+    pub calls: Vec<CallLine>,
+    /// A line for each session in which an honest domain served a hostile one, in order of the caller's
+    /// number, the server's number and the port.
+    pub served: Vec<ServedLine>,
+    /// All pages of the run.
+    pub pages: Vec<SettledPage>,
+}
+
+impl Model for Report {
+    ghost use Rattle.run_laws.specs.Report.{Report as LinesAndPages};
+
+    ghost Value = { LinesAndPages };
+
+    ghost view = { λ r. record { calls = r.calls.items; served = r.served.items; pages = r.pages.items } };
 }

@@ -14,7 +14,7 @@ ghost use Rattle.task_duties.specs.TaskOwes.{IsSameEnd};
 use crate::lay::{Offering, RunPage, RunPages};
 use crate::starts::RunStarts;
 use page_offer::{DoneClient, DoneServer, settle};
-use run_report::{SettledPage, Standing};
+use run_laws::{SettledPage, Standing};
 use scenario_file::Scenario;
 use std::alloc::Global;
 use task_duties::{DoneEnd, PagePlace, RetiredEnd};

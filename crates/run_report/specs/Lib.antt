@@ -1,4 +1,3 @@
 pub mod Lines
 pub mod Summary
 pub mod Summing
-pub mod Standing

@@ -3,8 +3,7 @@ ghost use Rattle.std.specs.Prelude.{◌≡◌, ◌<◌, ◌++◌, IfOk, OnOk};
 ghost use Rattle.run_report.specs.Summary.{counted, done_of, sums_text, summary_of};
 
 use crate::lines::push_sum;
-use crate::report::Report;
-use run_laws::CallResult;
+use run_laws::{CallResult, Report};
 use scenario_file::Scenario;
 use std::alloc::{AllocError, Global};
 use std::marker::Model;

@@ -4,8 +4,7 @@ ghost use Rattle.std.specs.List.{flat_map};
 ghost use Rattle.run_report.specs.Lines.{call_line, served_line, text_of};
 
 use crate::lines::{push_call, push_served, push_sum};
-use crate::report::Report;
-use run_laws::{CallLine, ServedLine};
+use run_laws::{CallLine, Report, ServedLine};
 use std::alloc::{AllocError, Global};
 use vchan_io::Memory;
 

@@ -6,7 +6,7 @@ ghost use Rattle.data_slots.specs.Index.{end_at};
 ghost use Rattle.run_laws.specs.ReadOff.{index_of};
 ghost use Rattle.scenario_run.specs.Index.{AreNumbers, IsIndexOf};
 
-use run_report::SettledPage;
+use run_laws::SettledPage;
 use std::alloc::{AllocError, Global};
 use std::collections::HashMap;
 use task_duties::PagePlace;

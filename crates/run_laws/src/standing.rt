@@ -22,7 +22,7 @@ pub struct Standing {
 
 impl Model for Standing {
     ghost use Rattle.end_view.specs.Settled.{Settled as SettledEnds};
-    ghost use Rattle.run_report.specs.Standing.{stands_of};
+    ghost use Rattle.run_laws.specs.Standing.{stands_of};
 
     ghost Value = { SettledEnds };
 
