@@ -6,6 +6,7 @@ ghost use Rattle.std.specs.List.{AllZip as EachPair};
 ghost use Rattle.task_duties.specs.Words.{ident_of};
 ghost use Rattle.call_queue.specs.Index.{place_in, number_in, IsIndex, IsFirst, HasTargets};
 
+use crate::trigger::IDENT_FRONT;
 use scenario_file::CallPlan;
 use script_words::parse_number;
 use std::alloc::{AllocError, Global};
@@ -51,7 +52,7 @@ pub(crate) fn place_in(index: &Index, ident: &[u8]) -> Option<usize>
 fn number_in(ident: &[u8]) -> Option<u32>
     ensures { result ≡ number_in ident.now }
 {
-    let digits = ident.strip_prefix(b"call-")?;
+    let digits = ident.strip_prefix(IDENT_FRONT)?;
     let number = parse_number(digits, 4_294_967_295)?;
     Some(number as u32)
 }

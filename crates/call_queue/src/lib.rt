@@ -14,3 +14,4 @@ mod trigger;
 
 pub use call::CallAnswer;
 pub use queue::CallQueue;
+pub use trigger::ident_text;

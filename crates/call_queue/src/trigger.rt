@@ -19,11 +19,18 @@ const TRIGGER_LEN: usize = 136;
 /// an ident of 32, and the NUL at the end.
 const TRIGGER3_LEN: usize = 105;
 
+/// The bytes with which the ident of a call begins.
+pub(crate) const IDENT_FRONT: &[u8] = b"call-";
+
 /// The greatest length of a call's ident: `call-` and the ten digits of a number below 2^32.
 const LONGEST_IDENT: usize = 15;
 
-// The ident by which the call with this number is requested.
-fn ident_text(alloc: Global, number: u32) -> Result<Text, Memory>
+/// Returns the ident by which the call with this number is requested: `call-` and the number.
+///
+/// # Errors
+///
+/// `Memory` if memory runs out; no other.
+pub fn ident_text(alloc: Global, number: u32) -> Result<Text, Memory>
     ensures is { IfOk result (λ ident. ident ≡ ident_of number) }
     ensures short { IfOk result (λ ident. FitsText 31 ident) }
     ensures number { number < 2 ^ 32 }
@@ -42,7 +49,7 @@ fn ident_bytes(alloc: Global, number: u32) -> Result<SmallVec<u8, LONGEST_IDENT>
     ensures number { number < 2 ^ 32 }
 {
     let mut bytes = SmallVec::new(alloc);
-    bytes.extend_from_slice(b"call-")?;
+    bytes.extend_from_slice(IDENT_FRONT)?;
     let mut buffer = Buffer::new();
     bytes.extend_from_slice(buffer.format(number).as_bytes())?;
     Ok(bytes)

@@ -1,7 +1,6 @@
 //! The lines of the calls of a run.
 ghost use Rattle.std.specs.Prelude.{◌≡◌, ◌+◌, ◌∷◌, [], List, length, map, IfOk};
 ghost use Rattle.scenario_file.specs.Scenario.{is_mixed, name_at, targets_hostile};
-ghost use Rattle.task_duties.specs.Words.{ident_of};
 ghost use Rattle.task_duties.specs.declared.place.PagePlace.{PagePlace as Place};
 ghost use Rattle.task_duties.specs.Agent.Owes.{caller_done};
 ghost use Rattle.run_laws.specs.Laid.{laid};
@@ -13,13 +12,13 @@ ghost use Rattle.scenario_run.specs.Lines.{HasReports, plain_result};
 use crate::answers::TaskReport;
 use crate::page_index::PageIndex;
 use call_broker::{Cause, Decision, Entry, Event};
-use itoa::Buffer;
+use call_queue::ident_text;
 use qrexec_data::Outcome;
 use qrexec_frame::{Bytes, Text, TextError};
 use run_laws::{CallLine, CallResult, MixedOutcome};
 use run_pages::is_hostile;
 use scenario_file::{CallPlan, LineCause, Scenario, number_named};
-use std::alloc::{AllocError, Global};
+use std::alloc::Global;
 use task_duties::CallEnd;
 use vchan_io::Memory;
 
@@ -153,8 +152,8 @@ fn plain_result(
             got,
         }),
         CallEnd::Refused => {
-            let ident = ident_of(alloc, call.number)?;
-            Ok(refusal(alloc, cause_in(journal, call.from, &ident)))
+            let ident = ident_text(alloc, call.number)?;
+            Ok(refusal(alloc, cause_in(journal, call.from, ident.bytes())))
         }
         CallEnd::Unanswered => Ok(without_bytes(alloc, MixedOutcome::Closed)),
     }
@@ -227,14 +226,4 @@ fn cause_by(entry: &Entry, from: u32, ident: &[u8]) -> Option<Cause>
         ) if *caller == from && asked.bytes() == ident => Some(cause),
         _ => None,
     }
-}
-
-// The ident of the call with this number.
-fn ident_of(alloc: Global, number: u32) -> Result<Vec<u8>, AllocError>
-    ensures { IfOk result (λ ident. ident.items ≡ ident_of number) }
-{
-    let mut ident = Vec::from_slice(alloc, b"call-")?;
-    let mut buffer = Buffer::new();
-    ident.extend_from_slice(buffer.format(number).as_bytes())?;
-    Ok(ident)
 }
