@@ -5,7 +5,7 @@ ghost use Rattle.scenario_file.specs.Scenario.{order_numbers, written};
 ghost use Rattle.vchan.specs.RowRings.{HasRowRings, IsOfRow};
 
 use super::whole_runs::SIX_CALLS;
-use super::{WHOLE, sink, words_of};
+use super::{ALL, sink, words_of};
 use crate::command::{Command, command_in};
 use crate::{Report, RunEnd, top};
 use ring_words::Orders;
@@ -60,9 +60,9 @@ fn report_of_row<R: Threads + Wait + Clock + Sync>(
     let Some(Command::Run { .. }) = command_in(words.as_slice()) else {
         return Err(Fail::new("no run"));
     };
-    let mut source = MemSource::new(file, WHOLE.most.max(1), Vec::new(alloc));
-    let mut out = sink(alloc, &WHOLE)?;
-    let mut err = sink(alloc, &WHOLE)?;
+    let mut source = MemSource::new(file, ALL, Vec::new(alloc));
+    let mut out = sink(alloc)?;
+    let mut err = sink(alloc)?;
     let RunEnd { report, .. } = top(
         rt,
         alloc,

@@ -1,7 +1,6 @@
-//! What `run` and `load` print, and that their workers run at once.
-use super::{FAILS, Outcome, Stream, WHOLE, run_over_memory, run_through};
-use crate::load_text;
-use service_gate::{Gate, OpenGate};
+//! That the workers of `run` run at once.
+use super::run_through;
+use service_gate::Gate;
 use std::alloc::Global;
 use std::sync::Wait;
 use std::sync::atomic::{AtomicBool, AtomicU64, Ordering};
@@ -9,6 +8,7 @@ use std::test::Fail;
 use std::thread::Threads;
 use std::time::Clock;
 use std::{hint, thread};
+use vchan_io::MemSink;
 
 /// Six calls between three domains.
 pub(super) const SIX_CALLS: &[u8] = br#"
@@ -57,90 +57,15 @@ const SIX_LINES: &[u8] = b"call 1 work vault echo done 0 68656c6c6f -\n\
     call 6 work vault echo done 0 - -\n\
     calls 6\n";
 
-const SUMS: &[u8] = b"calls 2\ndone 2\nstdin 1641\nstdout 517\nstderr 513\ncodes 0\n";
-
+/// Runs the six calls. Returns the number with which the program ends, and its output.
 fn run_six<G: Gate, R: Threads + Wait + Clock + Sync>(
     rt: &R,
     alloc: Global,
     workers: &str,
-    writes: &Stream,
     gate: &G,
-) -> Result<Outcome, Fail> {
+) -> Result<(u8, MemSink), Fail> {
     let input = Vec::from_slice(alloc, SIX_CALLS)?;
-    run_through(
-        rt,
-        alloc,
-        &["run", workers],
-        input,
-        &WHOLE,
-        writes,
-        &WHOLE,
-        gate,
-    )
-}
-
-#[test]
-fn six_calls_have_their_lines(rt: HostRuntime) -> Result<(), Fail> {
-    for workers in ["1", "8"] {
-        let ran = run_six(&rt, rt.alloc(), workers, &WHOLE, &OpenGate)?;
-        assert_eq!(rt; ran.status.code(), 0);
-        assert!(rt; ran.report.is_some());
-        assert!(rt; ran.out.bytes() == SIX_LINES);
-        assert!(rt; ran.err.bytes().is_empty());
-    }
-    Ok(())
-}
-
-/// The file takes five reads of 96 bytes, and a sixth that finds its end. Each of the six fails once.
-#[test]
-fn a_scenario_that_cannot_be_read_is_a_read_fault(rt: HostRuntime) -> Result<(), Fail> {
-    assert!(rt; SIX_CALLS.len() == 5 * 96);
-    for fails in FAILS {
-        let input = Vec::from_slice(rt.alloc(), SIX_CALLS)?;
-        let reads = Stream { most: 96, fails };
-        let words = ["run", "1"];
-        let ran = run_over_memory(&rt, rt.alloc(), &words, input, &reads, &WHOLE, &WHOLE)?;
-        assert_eq!(rt; ran.status.code(), 3);
-        assert!(rt; ran.report.is_none());
-        assert!(rt; ran.out.bytes().is_empty());
-        assert!(rt; ran.err.bytes() == b"vchan: read fault\n".as_slice());
-    }
-    Ok(())
-}
-
-/// Each of the first six writes fails, at most 4 bytes a write. What was written before is there.
-#[test]
-fn a_write_of_a_report_may_fail(rt: HostRuntime) -> Result<(), Fail> {
-    let mut written = 0;
-    for fails in FAILS {
-        let writes = Stream { most: 4, fails };
-        let ran = run_six(&rt, rt.alloc(), "1", &writes, &OpenGate)?;
-        assert_eq!(rt; ran.status.code(), 6);
-        assert!(rt; ran.report.is_some());
-        assert!(rt; ran.out.bytes().len() == written);
-        assert!(rt; SIX_LINES.starts_with(ran.out.bytes()));
-        assert!(rt; ran.err.bytes() == b"vchan: write fault\n".as_slice());
-        written += 4;
-    }
-    Ok(())
-}
-
-/// It reads nothing from a source that fails at its first read, either.
-#[test]
-fn a_load_reads_nothing(rt: HostRuntime) -> Result<(), Fail> {
-    let broken = Stream {
-        most: 1,
-        fails: &[1],
-    };
-    let input = Vec::from_slice(rt.alloc(), b"x")?;
-    let words = ["load", "7", "2"];
-    let ran = run_over_memory(&rt, rt.alloc(), &words, input, &broken, &WHOLE, &WHOLE)?;
-    assert_eq!(rt; ran.status.code(), 0);
-    assert!(rt; ran.report.is_some());
-    assert!(rt; ran.out.bytes() == SUMS);
-    let (text, _report) = load_text(&rt, rt.alloc(), 7, 2)?;
-    assert!(rt; text.as_slice() == SUMS);
-    Ok(())
+    run_through(rt, alloc, &["run", workers], input, gate)
 }
 
 /// The most tries for which a gate holds a task whose companions don't come.
@@ -220,9 +145,9 @@ impl Gate for Alone {
 fn two_domains_at_once(rt: HostRuntime) -> Result<(), Fail> {
     for (workers, set) in [("2", 0b0110), ("4", 0b1111)] {
         let gate = Together::of(set);
-        let ran = run_six(&rt, rt.alloc(), workers, &WHOLE, &gate)?;
-        assert_eq!(rt; ran.status.code(), 0);
-        assert!(rt; ran.out.bytes() == SIX_LINES);
+        let (code, out) = run_six(&rt, rt.alloc(), workers, &gate)?;
+        assert_eq!(rt; code, 0);
+        assert!(rt; out.bytes() == SIX_LINES);
         assert!(rt;
             !gate.late.load(Ordering::SeqCst),
             "a task of {workers} workers waited in vain"
@@ -239,8 +164,8 @@ fn one_worker_takes_turns(rt: HostRuntime) -> Result<(), Fail> {
         holds: AtomicBool::new(false),
         met: AtomicBool::new(false),
     };
-    let ran = run_six(&rt, rt.alloc(), "1", &WHOLE, &gate)?;
-    assert!(rt; ran.out.bytes() == SIX_LINES);
+    let (_, out) = run_six(&rt, rt.alloc(), "1", &gate)?;
+    assert!(rt; out.bytes() == SIX_LINES);
     assert!(rt; !gate.met.load(Ordering::SeqCst), "two tasks met");
     Ok(())
 }
