@@ -1,78 +1,35 @@
-//! Lists of clients, and servers of some lists.
+//! The errors of lists of clients, and servers of some lists. Lists that are read or refused are rows of
+//! tests/cli.
 ghost use Rattle.std.specs.Prelude.{ℕ, List, IsSome};
 ghost use Rattle.service_gate.specs.ServiceResult.{service as service_of};
 
 use ring_words::check_orders;
-use std::process::Abort;
 use std::sync::Wait;
 use std::test::Fail;
 use std::thread::Threads;
-use vchan_persist::{EpochResult, parse_clients, serve_clients};
+use vchan_persist::{ClientsError, ClientsKind, EpochResult, parse_clients, serve_clients};
 
-/// What is told of a list, and on the lines after it the list.
-const CASES: &str = "\
-== 3 clients
-call 61
-# nobody
-
-hostile 65535 65536
-call -
-== 0 clients
-== line 1: bad line
-cal 61
-== line 1: bad line
-call
-== line 1: bad line
-call 61 62
-== line 1: bad line
-call  61
-== line 2: bad line
-#
-hostile 7
-== line 1: bad line
-hostile x
-== line 1: bad line
-hostile 7 1 1
-== line 1: bad number
-hostile 65536 1
-== line 1: bad number
-hostile 07 1
-== line 2: bad number
-call -
-hostile 7 0
-call 6
-== line 1: bad number
-hostile 7 65537
-== line 1: bad hex
-call 6
-hostile x
-== line 1: bad hex
-call 61*0
-";
-
-/// What is told of a list.
-fn told(rt: &impl AllocGlobal, list: &str) -> Result<String, Fail> {
-    match parse_clients(rt.alloc(), list.as_bytes()) {
-        Ok(clients) => Ok(format!(in rt.alloc(); "{} clients", clients.len())?),
-        Err(error) => Ok(format!(in rt.alloc(); "{error}")?),
-    }
+fn bad(line: u32, kind: ClientsKind) -> ClientsError {
+    ClientsError::Bad { line, kind }
 }
 
-/// Checks what is told of the list of each case.
-fn check_cases(rt: &(impl Abort + AllocGlobal), cases: &str) -> Result<(), Fail> {
-    for case in cases.split("== ").skip(1) {
-        let (wanted, list) = case
-            .split_once('\n')
-            .ok_or("a case without an end of line")?;
-        let line = told(rt, list)?;
-        assert!(rt; line.as_bytes() == wanted.as_bytes(), "{wanted} of\n{list}");
-    }
-    Ok(())
-}
-
+/// The texts of errors, which no contract has.
 #[test]
-fn lists_are_read_or_refused(rt: HostRuntime) -> Result<(), Fail> {
-    check_cases(&rt, CASES)
+fn errors_of_lists_are_told_in_words(rt: HostRuntime) -> Result<(), Fail> {
+    let told = format!(in rt.alloc();
+        "{}; {}; {}; {}; {}",
+        bad(1, ClientsKind::BadLine),
+        bad(2, ClientsKind::BadLine),
+        bad(1, ClientsKind::BadNumber),
+        bad(2, ClientsKind::BadNumber),
+        bad(1, ClientsKind::BadHex),
+    )?;
+    assert!(rt;
+        told.as_str()
+            == "line 1: bad line; line 2: bad line; line 1: bad number; line 2: bad number; \
+                line 1: bad hex"
+    );
+    Ok(())
 }
 
 /// The answers to the clients of a list, one after the other: `h` for a hostile one, else the two
