@@ -1,9 +1,7 @@
 //! The texts of worked reports.
 use qrexec_frame::{Bytes, Text};
-use run_report::{
-    CallLine, CallResult, MixedOutcome, Report, ServedLine, report_text, summary_text,
-};
-use scenario_file::{Line, LineCause, LineResult, Scenario, generate, honest_lines};
+use run_report::{CallLine, CallResult, MixedOutcome, Report, ServedLine, report_text};
+use scenario_file::{Line, LineCause, LineResult, Scenario, honest_lines};
 use std::alloc::Global;
 use std::test::Fail;
 use vchan_io::Memory;
@@ -64,17 +62,6 @@ fn call_line(alloc: Global, number: u32, outcome: CallResult) -> Result<CallLine
         service: Text::of(alloc, b"upper")?,
         result: outcome,
     })
-}
-
-#[test]
-fn generated_calls_have_the_worked_sums(rt: HostRuntime) -> Result<(), Fail> {
-    let alloc = rt.alloc();
-    let scenario = generate(alloc, 7, 2)?;
-    let report = report_of(alloc, &scenario)?;
-    let summary = summary_text(alloc, &scenario, &report)?;
-    let wanted = b"calls 2\ndone 2\nstdin 1641\nstdout 517\nstderr 513\ncodes 0\n";
-    assert!(rt; summary.as_slice() == wanted.as_slice());
-    Ok(())
 }
 
 #[test]
