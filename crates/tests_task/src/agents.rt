@@ -50,6 +50,22 @@ fn say(broker: &mut ControlPort, message: &Message) -> Result<bool, Fail>
     Ok(true)
 }
 
+/// Sends the message of a command, as `say` does. The message is dropped here alone, since each place that
+/// drops one is dear to prove.
+fn say_command(
+    alloc: Global,
+    broker: &mut ControlPort,
+    command: (bool, u32, u32, &[u8]),
+) -> Result<bool, Fail>
+    requires open { IsOpen broker.old.end }
+    requires talker { broker.old.talker ≡ Broker }
+    ensures open { IsOpen broker.new.end }
+    ensures talker { broker.new.talker ≡ broker.old.talker }
+{
+    let message = message_of(alloc, command)?;
+    say(broker, &message)
+}
+
 /// Sends all commands. Returns whether all were sent.
 fn say_all(alloc: Global, broker: &mut ControlPort) -> Result<bool, Fail>
     requires open { IsOpen broker.old.end }
@@ -57,8 +73,7 @@ fn say_all(alloc: Global, broker: &mut ControlPort) -> Result<bool, Fail>
     ensures open { IsOpen broker.new.end }
 {
     for command in COMMANDS {
-        let message = message_of(alloc, command)?;
-        if !say(broker, &message)? {
+        if !say_command(alloc, broker, command)? {
             return Ok(false);
         }
     }
@@ -114,21 +129,20 @@ fn agent_of(alloc: Global, page: &Page, server: IdleSeat) -> Result<AgentTask<'_
     Ok(task)
 }
 
-/// Returns whether an agent goes on after two turns.
-fn turns_twice(agent: AgentTask<'_>) -> bool {
+/// Returns an agent after a turn, if it goes on.
+fn turned(agent: AgentTask<'_>) -> Option<AgentTask<'_>> {
     match agent.turn() {
-        AgentTurn::Again(agent) => goes_on(agent),
-        AgentTurn::Done(_done) => false,
-        AgentTurn::NoMemory { ends: _ends } => false,
+        AgentTurn::Again(agent) => Some(agent),
+        AgentTurn::Done(_done) => None,
+        AgentTurn::NoMemory { ends: _ends } => None,
     }
 }
 
-/// Returns whether an agent goes on after a turn.
-fn goes_on(agent: AgentTask<'_>) -> bool {
-    match agent.turn() {
-        AgentTurn::Again(_agent) => true,
-        AgentTurn::Done(_done) => false,
-        AgentTurn::NoMemory { ends: _ends } => false,
+/// Returns whether an agent goes on after two turns.
+fn turns_twice(agent: AgentTask<'_>) -> bool {
+    match turned(agent) {
+        Some(agent) => turned(agent).is_some(),
+        None => false,
     }
 }
 

@@ -83,6 +83,18 @@ fn trigger(alloc: Global) -> Result<Message, Fail>
     })
 }
 
+/// Requests a call, as `say` does. The message is dropped here alone, since each place that drops one is dear
+/// to prove.
+fn ask(alloc: Global, caller: &mut ControlPort) -> Result<bool, Fail>
+    requires open { IsOpen caller.old.end }
+    requires talker { caller.old.talker ≡ Agent }
+    ensures open { IsOpen caller.new.end }
+    ensures talker { caller.new.talker ≡ caller.old.talker }
+{
+    let message = trigger(alloc)?;
+    say(caller, &message)
+}
+
 /// Requests all calls. Returns whether all triggers were sent.
 fn ask_all(alloc: Global, caller: &mut ControlPort) -> Result<bool, Fail>
     requires open { IsOpen caller.old.end }
@@ -90,8 +102,7 @@ fn ask_all(alloc: Global, caller: &mut ControlPort) -> Result<bool, Fail>
     ensures open { IsOpen caller.new.end }
 {
     'calls: for _ in 0..CALLS {
-        let message = trigger(alloc)?;
-        if !say(caller, &message)? {
+        if !ask(alloc, caller)? {
             return Ok(false);
         }
     }

@@ -53,38 +53,61 @@ fn bytes_of(alloc: Global, text: &[u8]) -> Result<Bytes, Fail> {
     Ok(Bytes::of(Vec::from_slice(alloc, text)?))
 }
 
-// The line of a call from `work` to `vault`.
-fn call_line(alloc: Global, number: u32, outcome: CallResult) -> Result<CallLine, Fail> {
-    Ok(CallLine {
-        number,
-        from: Text::of(alloc, b"work")?,
-        to: Text::of(alloc, b"vault")?,
-        service: Text::of(alloc, b"upper")?,
-        result: outcome,
-    })
+/// The names in the line of a call: `work` calls `vault`.
+fn names(alloc: Global) -> Result<(Text, Text, Text), Fail> {
+    Ok((
+        Text::of(alloc, b"work")?,
+        Text::of(alloc, b"vault")?,
+        Text::of(alloc, b"upper")?,
+    ))
 }
 
-#[test]
-fn each_kind_of_line_has_its_text(rt: HostRuntime) -> Result<(), Fail> {
-    let alloc = rt.alloc();
-    let done = CallResult::Done {
+/// A call that is done, and never comes from the services by name.
+fn done(alloc: Global) -> Result<CallResult, Fail> {
+    Ok(CallResult::Done {
         code: -1,
         stdout: bytes_of(alloc, b"OK")?,
         stderr: bytes_of(alloc, b"")?,
         page: 3,
-    };
+    })
+}
+
+/// A call that is done with a hostile domain.
+fn mixed(alloc: Global) -> Result<CallResult, Fail> {
+    Ok(CallResult::Mixed {
+        outcome: MixedOutcome::Done { code: 7 },
+        got: bytes_of(alloc, b"\x00\xff")?,
+    })
+}
+
+// Appends the line of a call. Few places drop what owns memory in these functions, since each is dear to prove.
+fn push_call(
+    alloc: Global,
+    calls: &mut Vec<CallLine>,
+    number: u32,
+    outcome: CallResult,
+) -> Result<(), Fail> {
+    let (from, to, service) = names(alloc)?;
+    calls.push(CallLine {
+        number,
+        from,
+        to,
+        service,
+        result: outcome,
+    })?;
+    Ok(())
+}
+
+fn push_calls(alloc: Global, calls: &mut Vec<CallLine>) -> Result<(), Fail> {
+    push_call(alloc, calls, 1, done(alloc)?)?;
     let refused = CallResult::Refused {
         cause: LineCause::SameDomain,
     };
-    let mixed = CallResult::Mixed {
-        outcome: MixedOutcome::Done { code: 7 },
-        got: bytes_of(alloc, b"\x00\xff")?,
-    };
-    let mut calls = Vec::new(alloc);
-    calls.push(call_line(alloc, 1, done)?)?;
-    calls.push(call_line(alloc, 20, refused)?)?;
-    calls.push(call_line(alloc, 300, mixed)?)?;
-    let mut served = Vec::new(alloc);
+    push_call(alloc, calls, 20, refused)?;
+    push_call(alloc, calls, 300, mixed(alloc)?)
+}
+
+fn push_served(alloc: Global, served: &mut Vec<ServedLine>) -> Result<(), Fail> {
     served.push(ServedLine {
         from: Text::of(alloc, b"evil")?,
         to: Text::of(alloc, b"work")?,
@@ -92,9 +115,22 @@ fn each_kind_of_line_has_its_text(rt: HostRuntime) -> Result<(), Fail> {
         outcome: MixedOutcome::Gone,
         got: bytes_of(alloc, b"")?,
     })?;
-    let report = Report {
-        calls,
-        served,
+    Ok(())
+}
+
+/// Fills a report with a line of each kind, and returns its text.
+fn text_of_kinds(alloc: Global, report: &mut Report) -> Result<Vec<u8>, Fail> {
+    push_calls(alloc, &mut report.calls)?;
+    push_served(alloc, &mut report.served)?;
+    Ok(report_text(alloc, report)?)
+}
+
+#[test]
+fn each_kind_of_line_has_its_text(rt: HostRuntime) -> Result<(), Fail> {
+    let alloc = rt.alloc();
+    let mut report = Report {
+        calls: Vec::new(alloc),
+        served: Vec::new(alloc),
         pages: Vec::new(alloc),
     };
     let wanted = "call 1 work vault upper done -1 4f4b -\n\
@@ -102,7 +138,7 @@ fn each_kind_of_line_has_its_text(rt: HostRuntime) -> Result<(), Fail> {
         call 300 work vault upper mixed done:7 00ff\n\
         served evil work 514 gone -\n\
         calls 3\n";
-    let text = report_text(alloc, &report)?;
+    let text = text_of_kinds(alloc, &mut report)?;
     assert!(rt; text.as_slice() == wanted.as_bytes());
     Ok(())
 }

@@ -1,9 +1,11 @@
 //! Runs of scenarios in stated orders of turns.
+ghost use Rattle.std.specs.Prelude.{◌≤◌};
+
 use crate::in_order::InOrder;
 use crate::late::Late;
 use crate::reports::report_of;
 use run_report::report_text;
-use scenario_file::{generate, read};
+use scenario_file::{Scenario, generate, read};
 use scenario_run::run_scenario;
 use service_gate::{Gate, OpenGate};
 use std::alloc::Global;
@@ -63,7 +65,19 @@ fn told<G: Gate, R: Threads + Wait + Sync + AllocGlobal>(
     gate: &G,
 ) -> Result<Vec<u8>, Fail> {
     let scenario = read(rt.alloc(), file)?;
-    let report = run_scenario(rt, rt.alloc(), &scenario, WORKERS, gate)?;
+    run_text(rt, &scenario, WORKERS, gate)
+}
+
+/// The same of a scenario that is read, with this many workers.
+fn run_text<G: Gate, R: Threads + Wait + Sync + AllocGlobal>(
+    rt: &R,
+    scenario: &Scenario,
+    workers: u32,
+    gate: &G,
+) -> Result<Vec<u8>, Fail>
+    requires { (1 ≤ workers) × (workers ≤ 16) }
+{
+    let report = run_scenario(rt, rt.alloc(), scenario, workers, gate)?;
     Ok(report_text(rt.alloc(), &report)?)
 }
 
@@ -108,16 +122,29 @@ fn a_domain_that_comes_late_serves_all_calls(rt: HostRuntime) -> Result<(), Fail
     Ok(())
 }
 
+/// The text of the report that the services alone tell.
+fn services_text(alloc: Global, scenario: &Scenario) -> Result<Vec<u8>, Fail> {
+    let report = report_of(alloc, scenario)?;
+    Ok(report_text(alloc, &report)?)
+}
+
+fn check_workers<R: Threads + Wait + Sync + AllocGlobal + Abort>(
+    rt: &R,
+    scenario: &Scenario,
+) -> Result<(), Fail> {
+    let lines = services_text(rt.alloc(), scenario)?;
+    assert!(rt; run_text(rt, scenario, 1, &OpenGate)? == lines, "1 worker");
+    assert!(rt;
+        run_text(rt, scenario, 16, &OpenGate)? == lines,
+        "16 workers"
+    );
+    Ok(())
+}
+
 #[test]
 fn generated_calls_have_the_services_lines_with_one_worker_and_sixteen(
     rt: HostRuntime,
 ) -> Result<(), Fail> {
-    let alloc = rt.alloc();
-    let scenario = generate(alloc, 7, 200)?;
-    let lines = report_text(alloc, &report_of(alloc, &scenario)?)?;
-    for workers in [1, 16] {
-        let report = run_scenario(&rt, alloc, &scenario, workers, &OpenGate)?;
-        assert!(rt; report_text(alloc, &report)? == lines, "{workers} workers");
-    }
-    Ok(())
+    let scenario = generate(rt.alloc(), 7, 200)?;
+    check_workers(&rt, &scenario)
 }
