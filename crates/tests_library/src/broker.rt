@@ -152,20 +152,28 @@ const TWO_DOMAINS: &[Row] = &[
 
 const ASKS_B: Told = Told::Asks(1, "b", "echo");
 
-#[test]
-fn two_domains(rt: HostRuntime) -> Result<(), Fail> {
-    let mut broker = broker_of(rt.alloc(), &["a", "b"], &[0, 20, 1, 0])?;
+/// Sixteen calls from `a` to `b`, and then the rows. The caller owns the broker, so that it is dropped at one
+/// place.
+fn check_two_domains(rt: &(impl Abort + AllocGlobal), broker: &mut Broker) -> Result<(), Fail>
+    requires { count_of broker.old.hub ≡ 2 }
+{
     for call in 0..16 {
         let port = 513 + 2 * call;
-        check_rows(&rt, &mut broker, 2, &[(ASKS_B, accepted!(2, port))])?;
+        check_rows(rt, broker, 2, &[(ASKS_B, accepted!(2, port))])?;
     }
     assert_eq!(rt; broker.live(1, 2), 16);
-    check_rows(&rt, &mut broker, 2, TWO_DOMAINS)?;
+    check_rows(rt, broker, 2, TWO_DOMAINS)?;
     assert_eq!(rt; broker.live(1, 2), 0);
     assert_eq!(rt; broker.live(1, 3), 0);
     assert_eq!(rt; broker.name(2).bytes(), b"b".as_slice());
     assert_eq!(rt; broker.journal().len(), 16 + TWO_DOMAINS.len());
     Ok(())
+}
+
+#[test]
+fn two_domains(rt: HostRuntime) -> Result<(), Fail> {
+    let mut broker = broker_of(rt.alloc(), &["a", "b"], &[0, 20, 1, 0])?;
+    check_two_domains(&rt, &mut broker)
 }
 
 /// Domains `a`, `b` and `c` with one page for each ordered pair.
@@ -175,12 +183,18 @@ const STRANGER: &[Row] = &[
     (Told::Ends(3, 2, 513), Decision::PassedOver),
 ];
 
+fn check_stranger(rt: &(impl Abort + AllocGlobal), broker: &mut Broker) -> Result<(), Fail>
+    requires { count_of broker.old.hub ≡ 3 }
+{
+    check_rows(rt, broker, 3, STRANGER)?;
+    assert_eq!(rt; broker.live(1, 2), 1);
+    Ok(())
+}
+
 #[test]
 fn terminated_by_stranger(rt: HostRuntime) -> Result<(), Fail> {
     let mut broker = broker_of(rt.alloc(), &["a", "b", "c"], &[0, 1, 1, 1, 0, 1, 1, 1, 0])?;
-    check_rows(&rt, &mut broker, 3, STRANGER)?;
-    assert_eq!(rt; broker.live(1, 2), 1);
-    Ok(())
+    check_stranger(&rt, &mut broker)
 }
 
 /// Domains `a` and `b_` with one page for each ordered pair.
@@ -193,12 +207,9 @@ const CLEANED: &[Row] = &[
 #[test]
 fn cleaned_names(rt: HostRuntime) -> Result<(), Fail> {
     let alloc = rt.alloc();
-    let name = clean_name(alloc, &text(alloc, "a b$")?)?;
-    let service = clean_service(alloc, &text(alloc, "echo a+b")?)?;
-    let target = clean_target(alloc, &text(alloc, "@x:y+z")?)?;
-    assert_eq!(rt; name.bytes(), b"a_b_".as_slice());
-    assert_eq!(rt; service.bytes(), b"echo_a+b".as_slice());
-    assert_eq!(rt; target.bytes(), b"@x:y_z".as_slice());
+    assert!(rt; clean_name(alloc, &text(alloc, "a b$")?)?.bytes() == b"a_b_".as_slice());
+    assert!(rt; clean_service(alloc, &text(alloc, "echo a+b")?)?.bytes() == b"echo_a+b".as_slice());
+    assert!(rt; clean_target(alloc, &text(alloc, "@x:y+z")?)?.bytes() == b"@x:y_z".as_slice());
     let mut broker = broker_of(alloc, &["a", "b_"], &[0, 1, 1, 0])?;
     check_rows(&rt, &mut broker, 2, CLEANED)
 }
@@ -235,12 +246,19 @@ fn ask_all_pairs(
     Ok(())
 }
 
-#[test]
-fn all_pairs(rt: HostRuntime) -> Result<(), Fail> {
-    let mut broker = broker_of(rt.alloc(), &NAMES, &[5; 1024])?;
+/// Five rounds.
+fn check_rounds(rt: &(impl Abort + AllocGlobal), broker: &mut Broker) -> Result<(), Fail>
+    requires { count_of broker.old.hub ≡ 32 }
+{
     for round in 0..5 {
-        ask_all_pairs(&rt, &mut broker, round)?;
+        ask_all_pairs(rt, broker, round)?;
     }
     assert_eq!(rt; broker.journal().len(), 4960);
     Ok(())
+}
+
+#[test]
+fn all_pairs(rt: HostRuntime) -> Result<(), Fail> {
+    let mut broker = broker_of(rt.alloc(), &NAMES, &[5; 1024])?;
+    check_rounds(&rt, &mut broker)
 }

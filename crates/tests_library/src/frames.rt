@@ -4,22 +4,34 @@ use qrexec_frame::{
     Channel, Decoder, Kind, Message, Text, clean_name, clean_service, clean_target, encode_data,
     fits, message_line,
 };
+use std::alloc::Global;
+use std::process::Abort;
 use std::test::Fail;
+use vchan_io::Memory;
 
-#[test]
-fn lends_bodies(rt: HostRuntime) -> Result<(), Fail> {
-    let alloc = rt.alloc();
-    let mut decoder = Decoder::new(alloc, Channel::Data);
+/// The bytes of two bytes on the error output, and of none on the output.
+fn two_messages(alloc: Global) -> Result<Vec<u8>, Memory> {
     let mut bytes = Vec::new(alloc);
     encode_data(Kind::Stderr, b"ab", &mut bytes)?;
     encode_data(Kind::Stdout, b"", &mut bytes)?;
-    decoder.feed(&bytes)?;
+    Ok(bytes)
+}
+
+/// Checks the first body that a decoder lends of these bytes.
+fn check_body(rt: &impl Abort, decoder: &mut Decoder, bytes: &[u8]) -> Result<(), Fail> {
+    decoder.feed(bytes)?;
     let Ok(Some(body)) = decoder.next_body() else {
         return Err(Fail::from("no message"));
     };
     assert!(rt; body.kind == Kind::Stderr && body.bytes == b"ab".as_slice());
     assert!(rt; decoder.rest() == 8 && decoder.held() == 18 && decoder.at() == 10);
     Ok(())
+}
+
+#[test]
+fn lends_bodies(rt: HostRuntime) -> Result<(), Fail> {
+    let bytes = two_messages(rt.alloc())?;
+    check_body(&rt, &mut Decoder::new(rt.alloc(), Channel::Data), &bytes)
 }
 
 #[test]
@@ -32,17 +44,33 @@ fn cleans_texts(rt: HostRuntime) -> Result<(), Fail> {
     Ok(())
 }
 
+/// The line of a message, which fits into a frame.
+fn fitting_line(rt: &(impl Abort + AllocGlobal), message: &Message) -> Result<Vec<u8>, Memory> {
+    assert!(rt; fits(message));
+    message_line(rt.alloc(), message)
+}
+
+/// The line of the message that refuses the call of an ident. The message is dropped here alone, since each
+/// place that drops one is dear to prove.
+fn refused_line(rt: &(impl Abort + AllocGlobal), ident: Text) -> Result<Vec<u8>, Memory> {
+    fitting_line(rt, &Message::Refused { ident })
+}
+
 #[test]
 fn prints_texts_without_nul(rt: HostRuntime) -> Result<(), Fail> {
     let alloc = rt.alloc();
     assert!(rt; Text::of(alloc, b"a\0b").is_err());
-    let text = Text::of(alloc, b"call 1")?;
-    let message = Message::Refused {
-        ident: text.clone()?,
-    };
-    assert!(rt; fits(&message));
-    assert!(rt; message_line(alloc, &message)?.as_slice() == b"refused call 1".as_slice());
+    let ident = Text::of(alloc, b"call 1")?.clone()?;
+    assert!(rt; refused_line(&rt, ident)?.as_slice() == b"refused call 1".as_slice());
     Ok(())
+}
+
+/// Whether a decoder returns a message now.
+fn gives_one(decoder: &mut Decoder) -> bool {
+    match decoder.next() {
+        Ok(found) => found.is_some(),
+        Err(_) => false,
+    }
 }
 
 /// How many messages a decoder returns of these bytes, fed one at a time, and after how many bytes
@@ -52,7 +80,7 @@ fn fed_in_single_bytes(decoder: &mut Decoder, bytes: &[u8]) -> Result<(usize, us
     let mut first = 0;
     for (at, byte) in bytes.iter().enumerate() {
         decoder.feed(&[*byte])?;
-        if let Ok(Some(_)) = decoder.next() {
+        if gives_one(decoder) {
             if given == 0 {
                 first = at + 1;
             }
@@ -62,15 +90,24 @@ fn fed_in_single_bytes(decoder: &mut Decoder, bytes: &[u8]) -> Result<(usize, us
     Ok((given, first))
 }
 
-#[test]
-fn gives_a_message_after_its_last_byte(rt: HostRuntime) -> Result<(), Fail> {
-    let alloc = rt.alloc();
+/// The bytes of a message of the longest body.
+fn longest_message(alloc: Global) -> Result<Vec<u8>, Memory> {
     let body = vec![in alloc; 7u8; 65_536]?;
     let mut bytes = Vec::new(alloc);
     encode_data(Kind::Stdout, &body, &mut bytes)?;
-    let mut decoder = Decoder::new(alloc, Channel::Data);
-    assert!(rt; fed_in_single_bytes(&mut decoder, &bytes)? == (1, 65_544));
-    assert!(rt; fed_in_single_bytes(&mut decoder, &[0x91, 0x01])? == (0, 0));
+    Ok(bytes)
+}
+
+/// Checks that the message comes after its last byte, and none after the first two bytes of another.
+fn check_single_bytes(rt: &impl Abort, decoder: &mut Decoder, bytes: &[u8]) -> Result<(), Fail> {
+    assert!(rt; fed_in_single_bytes(decoder, bytes)? == (1, 65_544));
+    assert!(rt; fed_in_single_bytes(decoder, &[0x91, 0x01])? == (0, 0));
     assert!(rt; decoder.rest() == 2 && decoder.at() == 65_544);
     Ok(())
+}
+
+#[test]
+fn gives_a_message_after_its_last_byte(rt: HostRuntime) -> Result<(), Fail> {
+    let bytes = longest_message(rt.alloc())?;
+    check_single_bytes(&rt, &mut Decoder::new(rt.alloc(), Channel::Data), &bytes)
 }

@@ -214,21 +214,28 @@ const AFTER_SIXTEEN: [(Told, Decision); 10] = [
     (Told::Asks(Domain::B), Decision::PassedOver),
 ];
 
-/// An event for which memory is refused leaves the journal, the live calls and the ports as they were.
-#[test]
-fn a_broker_stands_without_memory(rt: HostRuntime) -> Result<(), Fail> {
-    let mut broker = broker_at_last(rt.alloc())?;
+/// Checks what the broker decides. The caller owns it, so that it is dropped at one place.
+fn check_decisions(rt: &(impl Abort + AllocGlobal), broker: &mut Broker) -> Result<(), Memory>
+    requires { count_of broker.old.hub ≡ 2 }
+{
     for call in 0..16 {
         let told = Told::Asks(Domain::A);
         let port = 513 + 2 * call;
         assert_eq!(rt;
-            decided(&rt, &mut broker, told)?,
+            decided(rt, broker, told)?,
             Decision::Accepted { to: 2, port }
         );
     }
     for (told, decision) in AFTER_SIXTEEN {
-        assert_eq!(rt; decided(&rt, &mut broker, told)?, decision, "{told:?}");
+        assert_eq!(rt; decided(rt, broker, told)?, decision, "{told:?}");
     }
     assert_eq!(rt; broker.journal().len(), 26);
     Ok(())
+}
+
+/// An event for which memory is refused leaves the journal, the live calls and the ports as they were.
+#[test]
+fn a_broker_stands_without_memory(rt: HostRuntime) -> Result<(), Fail> {
+    let mut broker = broker_at_last(rt.alloc())?;
+    Ok(check_decisions(&rt, &mut broker)?)
 }

@@ -4,6 +4,7 @@ use scenario_file::{
     without_hostile,
 };
 use std::alloc::Global;
+use std::process::Abort;
 use std::test::Fail;
 
 /// Two honest domains and a hostile one, a call between the two, and one that is refused.
@@ -34,8 +35,18 @@ service = "echo"
 /// two calls that don't name it, with their numbers.
 fn stands_without_the_hostile(alloc: Global) -> Result<bool, Fail> {
     let visited = read(alloc, VISITED)?;
-    let left = without_hostile(alloc, &visited)?;
-    let lines = honest_lines(alloc, &left)?;
+    stands_alone(alloc, &visited)
+}
+
+/// The same of a scenario that is read. Each scenario, and the list of lines, is dropped at one place.
+fn stands_alone(alloc: Global, visited: &Scenario) -> Result<bool, Fail> {
+    let left = without_hostile(alloc, visited)?;
+    has_its_lines(alloc, &left)
+}
+
+/// The same of the scenario without its hostile domain.
+fn has_its_lines(alloc: Global, left: &Scenario) -> Result<bool, Fail> {
+    let lines = honest_lines(alloc, left)?;
     Ok(left.domains.len() == 2 && lines.len() == 2 && lines[0].number == 1 && lines[1].number == 3)
 }
 
@@ -87,16 +98,27 @@ fn is_done(line: &Line, begins: &[u8], stdout_len: usize, stderr_len: usize) -> 
     }
 }
 
-#[test]
-fn generated_calls_have_their_lines(rt: HostRuntime) -> Result<(), Fail> {
-    let alloc = rt.alloc();
-    let made: Scenario = generate(alloc, 7, 2)?;
-    assert!(rt; made.calls.len() == 2);
-    assert!(rt; is_call(&made.calls[0], 4, b"d3", b"count", 615));
-    assert!(rt; is_call(&made.calls[1], 2, b"d3", b"split", 1_026));
-    let lines = honest_lines(alloc, &made)?;
+fn check_calls(rt: &impl Abort, calls: &[CallPlan]) {
+    assert!(rt; calls.len() == 2);
+    assert!(rt; is_call(&calls[0], 4, b"d3", b"count", 615));
+    assert!(rt; is_call(&calls[1], 2, b"d3", b"split", 1_026));
+}
+
+fn check_lines(rt: &impl Abort, lines: &[Line]) {
     assert!(rt; lines.len() == 2);
     assert!(rt; is_done(&lines[0], b"615\n", 4, 0));
     assert!(rt; is_done(&lines[1], b"", 513, 513));
+}
+
+fn check_made(rt: &(impl Abort + AllocGlobal), made: &Scenario) -> Result<(), Fail> {
+    check_calls(rt, made.calls.as_slice());
+    let lines = honest_lines(rt.alloc(), made)?;
+    check_lines(rt, lines.as_slice());
     Ok(())
+}
+
+#[test]
+fn generated_calls_have_their_lines(rt: HostRuntime) -> Result<(), Fail> {
+    let made = generate(rt.alloc(), 7, 2)?;
+    check_made(&rt, &made)
 }

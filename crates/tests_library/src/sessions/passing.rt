@@ -90,8 +90,21 @@ fn passed<S: Service>(alloc: Global, service: S, call: Call) -> Result<(usize, u
     let (own, theirs, chunk, len, most, _, _) = call;
     let input = vec![in alloc; 0x61; len]?;
     let mut caller = caller(alloc, &input, own, chunk)?;
+    passed_by(alloc, &mut caller, service, theirs, chunk, most, &input)
+}
+
+/// Passes this caller's call to its end, and returns its counts. Each side is dropped at one place.
+fn passed_by<S: Service>(
+    alloc: Global,
+    caller: &mut Caller,
+    service: S,
+    theirs: u32,
+    chunk: u32,
+    most: usize,
+    input: &[u8],
+) -> Result<(usize, usize), Fail> {
     let mut serving = serving(alloc, service, theirs, chunk)?;
-    passed_between(alloc, &mut caller, &mut serving, most, &input)
+    passed_between(alloc, caller, &mut serving, most, input)
 }
 
 fn check_calls(rt: &impl Abort, alloc: Global, calls: &[Call]) -> Result<(), Fail> {
@@ -121,6 +134,15 @@ fn longest(alloc: Global, header: &str) -> Result<Vec<u8>, Fail> {
 /// body is.
 fn sent_by<S: Service>(alloc: Global, service: S, bytes: &[u8]) -> Result<(usize, usize), Fail> {
     let mut side = serving(alloc, service, 2, 65_536)?;
+    sent_of(alloc, &mut side, bytes)
+}
+
+/// The same of this side.
+fn sent_of<S: Service>(
+    alloc: Global,
+    side: &mut Serving<S>,
+    bytes: &[u8],
+) -> Result<(usize, usize), Fail> {
     side.take(bytes)?;
     let mut out = Vec::new(alloc);
     for _ in 0..100 {
@@ -132,12 +154,22 @@ fn sent_by<S: Service>(alloc: Global, service: S, bytes: &[u8]) -> Result<(usize
     count_of(alloc, &out)
 }
 
+/// How many bytes of output a caller of version 2 that takes these bytes has.
+fn output_of(alloc: Global, bytes: &[u8]) -> Result<usize, Fail> {
+    let mut side = caller(alloc, b"", 2, 65_536)?;
+    output_after(&mut side, bytes)
+}
+
+/// The same of this caller.
+fn output_after(side: &mut Caller, bytes: &[u8]) -> Result<usize, Fail> {
+    side.take(bytes)?;
+    Ok(side.stdout().len())
+}
+
 #[test]
 fn version_two_takes_the_longest_bodies_and_sends_none(rt: HostRuntime) -> Result<(), Fail> {
     let alloc = rt.alloc();
-    let mut caller = caller(alloc, b"", 2, 65_536)?;
-    caller.take(&longest(alloc, "9101000000000100")?)?;
-    assert!(rt; caller.stdout().len() == 65_536);
+    assert!(rt; output_of(alloc, &longest(alloc, "9101000000000100")?)? == 65_536);
     let sent = sent_by(
         alloc,
         builtin(b"echo")?,

@@ -1,6 +1,6 @@
 //! Streams of bytes from outside, and how the side that takes them comes out.
 use crate::sessions::sides::{HELLO, builtin, bytes_of, caller, serving};
-use qrexec_data::Outcome;
+use qrexec_data::{Caller, Outcome, Serving};
 use service_gate::Service;
 use std::alloc::Global;
 use std::process::Abort;
@@ -133,6 +133,16 @@ const STREAMS: [Row; 18] = [
 /// How a caller that takes these bytes in pieces of at most `most` comes out.
 fn called(alloc: Global, bytes: &[u8], most: usize, end: End) -> Result<Option<Outcome>, Fail> {
     let mut side = caller(alloc, b"", 3, 1)?;
+    called_by(&mut side, bytes, most, end)
+}
+
+/// The same of this caller, which is dropped at one place.
+fn called_by(
+    side: &mut Caller,
+    bytes: &[u8],
+    most: usize,
+    end: End,
+) -> Result<Option<Outcome>, Fail> {
     for piece in bytes.chunks(most.max(1)) {
         side.take(piece)?;
     }
@@ -153,6 +163,16 @@ fn served<S: Service>(
     end: End,
 ) -> Result<Option<Outcome>, Fail> {
     let mut side = serving(alloc, service, 3, 1)?;
+    served_by(&mut side, bytes, most, end)
+}
+
+/// The same of this side.
+fn served_by<S: Service>(
+    side: &mut Serving<S>,
+    bytes: &[u8],
+    most: usize,
+    end: End,
+) -> Result<Option<Outcome>, Fail> {
     for piece in bytes.chunks(most.max(1)) {
         side.take(piece)?;
     }
