@@ -3,8 +3,9 @@
 ghost use Rattle.std.specs.Prelude.{◌≡◌, ◌≤◌, ◌*◌, OnOk, IfOk, All, length, vec_len};
 ghost use Rattle.call_broker.specs.Domains.{count_of};
 
+use crate::frames::{cleaned_name, cleaned_service, cleaned_target};
 use call_broker::{Broker, Cause, Decision, DomainEntry, Event};
-use qrexec_frame::{Text, clean_name, clean_service, clean_target};
+use qrexec_frame::Text;
 use std::alloc::Global;
 use std::process::Abort;
 use std::test::Fail;
@@ -204,14 +205,18 @@ const CLEANED: &[Row] = &[
     (Told::Asks(1, "b ", "first+1"), accepted!(2, 513)),
 ];
 
+fn check_cleaned(rt: &(impl Abort + AllocGlobal)) -> Result<(), Fail> {
+    let mut broker = broker_of(rt.alloc(), &["a", "b_"], &[0, 1, 1, 0])?;
+    check_rows(rt, &mut broker, 2, CLEANED)
+}
+
 #[test]
 fn cleaned_names(rt: HostRuntime) -> Result<(), Fail> {
     let alloc = rt.alloc();
-    assert!(rt; clean_name(alloc, &text(alloc, "a b$")?)?.bytes() == b"a_b_".as_slice());
-    assert!(rt; clean_service(alloc, &text(alloc, "echo a+b")?)?.bytes() == b"echo_a+b".as_slice());
-    assert!(rt; clean_target(alloc, &text(alloc, "@x:y+z")?)?.bytes() == b"@x:y_z".as_slice());
-    let mut broker = broker_of(alloc, &["a", "b_"], &[0, 1, 1, 0])?;
-    check_rows(&rt, &mut broker, 2, CLEANED)
+    assert!(rt; cleaned_name(alloc, "a b$")?.bytes() == b"a_b_".as_slice());
+    assert!(rt; cleaned_service(alloc, "echo a+b")?.bytes() == b"echo_a+b".as_slice());
+    assert!(rt; cleaned_target(alloc, "@x:y+z")?.bytes() == b"@x:y_z".as_slice());
+    check_cleaned(&rt)
 }
 
 /// The names of 32 domains.

@@ -34,13 +34,26 @@ fn lends_bodies(rt: HostRuntime) -> Result<(), Fail> {
     check_body(&rt, &mut Decoder::new(rt.alloc(), Channel::Data), &bytes)
 }
 
+// The cleaning calls, in functions of their own: what a contract says of a text stays out of the tests.
+pub(crate) fn cleaned_name(alloc: Global, name: &str) -> Result<Text, Fail> {
+    Ok(clean_name(alloc, &Text::of(alloc, name.as_bytes())?)?)
+}
+
+pub(crate) fn cleaned_service(alloc: Global, service: &str) -> Result<Text, Fail> {
+    Ok(clean_service(alloc, &Text::of(alloc, service.as_bytes())?)?)
+}
+
+pub(crate) fn cleaned_target(alloc: Global, target: &str) -> Result<Text, Fail> {
+    Ok(clean_target(alloc, &Text::of(alloc, target.as_bytes())?)?)
+}
+
 #[test]
 fn cleans_texts(rt: HostRuntime) -> Result<(), Fail> {
     let alloc = rt.alloc();
-    let text = Text::of(alloc, b"a @:+$")?;
-    assert!(rt; clean_name(alloc, &text)?.bytes() == b"a_____".as_slice());
-    assert!(rt; clean_service(alloc, &text)?.bytes() == b"a___+_".as_slice());
-    assert!(rt; clean_target(alloc, &text)?.bytes() == b"a_@:__".as_slice());
+    let text = "a @:+$";
+    assert!(rt; cleaned_name(alloc, text)?.bytes() == b"a_____".as_slice());
+    assert!(rt; cleaned_service(alloc, text)?.bytes() == b"a___+_".as_slice());
+    assert!(rt; cleaned_target(alloc, text)?.bytes() == b"a_@:__".as_slice());
     Ok(())
 }
 
@@ -50,18 +63,15 @@ fn fitting_line(rt: &(impl Abort + AllocGlobal), message: &Message) -> Result<Ve
     message_line(rt.alloc(), message)
 }
 
-/// The line of the message that refuses the call of an ident. The message is dropped here alone, since each
-/// place that drops one is dear to prove.
-fn refused_line(rt: &(impl Abort + AllocGlobal), ident: Text) -> Result<Vec<u8>, Memory> {
-    fitting_line(rt, &Message::Refused { ident })
-}
-
+// The lines of messages that own memory are rows of tests/cli: to drop such a message is dear to prove.
 #[test]
 fn prints_texts_without_nul(rt: HostRuntime) -> Result<(), Fail> {
     let alloc = rt.alloc();
     assert!(rt; Text::of(alloc, b"a\0b").is_err());
-    let ident = Text::of(alloc, b"call 1")?.clone()?;
-    assert!(rt; refused_line(&rt, ident)?.as_slice() == b"refused call 1".as_slice());
+    let text = Text::of(alloc, b"call 1")?.clone()?;
+    assert!(rt; text.bytes() == b"call 1".as_slice());
+    let line = fitting_line(&rt, &Message::Hello { version: 3 })?;
+    assert!(rt; line.as_slice() == b"hello 3".as_slice());
     Ok(())
 }
 
