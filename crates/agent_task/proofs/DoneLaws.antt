@@ -103,7 +103,7 @@ reports_one plan end ends a over are h = (refl, by_answer a.call a.answer over h
     by_answer call IsRefused (Some over) h = absurd h
     by_answer call (At to port) None h = absurd h
     by_answer call (At to port) (Some over) h =
-        (h.1, h.0, end_there ends end (Payload plan.domain to port) (CallerOwes plan.version call.stdin (record { outcome = over.outcome; stdout = over.stdout; stderr = over.stderr; got = over.got })) are h.2)
+        (h.1, h.0, end_there ends end (Payload plan.domain to port) (CallerOwes plan.version call.stdin over.done) are h.2)
 
 reports_all : (plan : AgentPlan) (end : PagePlace → EndView) (ends : List EndAt) (asked : List Asked) (over : List (Option CallOver)) → AreEnds end ends → EachPair (ReportsCalled plan.domain plan.version ends) (map called_of asked) over
     → EachPair (ReportsCall plan end) asked (call_dones asked over)

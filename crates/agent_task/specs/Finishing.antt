@@ -9,7 +9,7 @@ use Rattle.data_slots.specs.declared.done.CallOver.{CallOver}
 
 -- what comes of a call, by its answer and what came of its session
 abbrev pub call_end_of : Answer → Option CallOver → CallEnd
-call_end_of answer (Some over) = Session over.port over.to over.outcome over.stdout over.stderr over.got
+call_end_of answer (Some over) = Session over.port over.to over.done.outcome over.done.stdout over.done.stderr over.done.got
 call_end_of IsRefused None = Refused
 call_end_of answer None = Unanswered
 

@@ -20,7 +20,7 @@ use call_queue::{CallAnswer, CallQueue};
 use control_port::ControlPort;
 use data_slots::{CallOver, DataDone};
 use std::alloc::Global;
-use task_duties::{CallDone, CallEnd, ControlEnd, DoneEnd, PagePlace, RetiredEnd};
+use task_duties::{CallDone, CallEnd, CallerDone, ControlEnd, DoneEnd, PagePlace, RetiredEnd};
 use vchan_io::Memory;
 use vchan_rule::Retired;
 
@@ -147,10 +147,12 @@ fn call_end(answer: CallAnswer, over: Option<CallOver>) -> CallEnd
             CallOver {
                 to,
                 port,
-                outcome,
-                stdout,
-                stderr,
-                got,
+                done: CallerDone {
+                    outcome,
+                    stdout,
+                    stderr,
+                    got,
+                },
             },
         ) => CallEnd::Session {
             port,

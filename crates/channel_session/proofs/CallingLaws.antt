@@ -14,7 +14,8 @@ use Rattle.qrexec_data.specs.Seeing.{caller_sees, CallerSeen}
 use Rattle.qrexec_data.specs.Sending.{CallerMaySend}
 use Rattle.qrexec_data.specs.Fitting.{FitsCaller}
 use Rattle.qrexec_data.proofs.MaySendLaws.{caller_may_send}
-use Rattle.task_duties.specs.Agent.Sessions.{CallerEnded, CallerDone, CallerOwes}
+use Rattle.task_duties.specs.declared.done.CallerDone.{CallerDone}
+use Rattle.task_duties.specs.Agent.Sessions.{CallerEnded, CallerOwes}
 use Rattle.channel_session.specs.Calling.{EndsBy, IsCalling, IsRetired}
 
 -- bytes decide nothing of the channel's end

@@ -1,4 +1,3 @@
 pub mod Calling
 pub mod Answering
-pub mod Ended
 pub mod Turning

@@ -4,13 +4,13 @@ ghost use Rattle.vchan_rule.specs.Seated.{view, last_view, IsOpen};
 ghost use Rattle.vchan_rule.specs.Ends.{IsSameEnd};
 ghost use Rattle.task_duties.specs.Agent.Sessions.{CallerOwes};
 ghost use Rattle.channel_session.specs.Calling.{IsCalling, IsSameCall, IsRetired, CallerTurns, CallerReads, CallerWrites, IsDueOrPasses};
-ghost use Rattle.channel_session.specs.Ended.{done_of};
 ghost use Rattle.channel_session.specs.Turning.{first_pace, HasSeenShut, KeepsShut};
 
 use crate::pause::{Pause, Turned};
 use qrexec_data::{Caller, CallerParts, Outcome};
 use qrexec_frame::Bytes;
 use std::marker::Model;
+use task_duties::CallerDone;
 use vchan_io::Memory;
 use vchan_lifecycle::{DrainAnswer, drain, retire};
 use vchan_notify::take_event;
@@ -180,7 +180,7 @@ impl<'p> CallerSession<'p> {
     pub fn finish(self, outcome: Outcome) -> CallerEnd
         requires calling { IsCalling self.caller self.end }
         requires outcome { self.caller.replies.outcome ≡ Some outcome }
-        ensures owed { CallerOwes self.entry.caller.replies.own self.entry.caller.requests.input (done_of result) (last_view result.retired) }
+        ensures owed { CallerOwes self.entry.caller.replies.own self.entry.caller.requests.input result.done (last_view result.retired) }
         ensures end { IsRetired (view self.entry.end) (last_view result.retired) }
         ensures honest { (last_view result.retired).turned ≡ false }
     {
@@ -190,11 +190,14 @@ impl<'p> CallerSession<'p> {
             stderr,
             got,
         } = caller.into_parts();
-        CallerEnd {
+        let done = CallerDone {
             outcome,
             stdout: Bytes::of(stdout),
             stderr: Bytes::of(stderr),
             got: Bytes::of(got),
+        };
+        CallerEnd {
+            done,
             retired: retire(end),
         }
     }
@@ -210,17 +213,11 @@ impl<'p> CallerSession<'p> {
     }
 }
 
-/// A call that is over at its caller: how it came out, its outputs, all bytes got, and its end.
+/// A call that is over at its caller: what the caller has, and its end.
 #[derive(Drop)]
 pub struct CallerEnd {
-    /// How it came out.
-    pub outcome: Outcome,
-    /// The output that came before the message that decided.
-    pub stdout: Bytes,
-    /// The error output that came before the message that decided.
-    pub stderr: Bytes,
-    /// All bytes got.
-    pub got: Bytes,
+    /// How it came out, the two outputs that came before the message that decided, and all bytes got.
+    pub done: CallerDone,
     /// Its end, which makes no more events.
     pub retired: Retired,
 }

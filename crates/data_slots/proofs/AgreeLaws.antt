@@ -24,8 +24,8 @@ one_free version place (Unused end) rest h = refl
 one_free version place (Calls number input side session) rest h = refl
 one_free version place (Awaits number service serving side) rest h = refl
 one_free version place (Serves number service side session) rest h = refl
-one_free version place (CallIsOver number input came end) rest h = refl
-one_free version place (ServingIsOver number service came end) rest h = refl
+one_free version place (CallIsOver number input done end) rest h = refl
+one_free version place (ServingIsOver number service outcome got end) rest h = refl
 one_free version place Taken rest h = absurd h
 
 all_free : (version : ℕ) (slots : List Slot) → Each (λ s. IsStage version s.stage) slots → unused_in (frames slots) ≡ places_free (map (λ (h : Held). h.place) (held_in slots)) (sessions_in slots)
@@ -42,8 +42,8 @@ all_stand version (s ∷ slots) each = (by_stage s.stage each.0, all_stand versi
     by_stage (Calls number input side session) h = (h.0, h.1)
     by_stage (Awaits number service serving side) h = tt
     by_stage (Serves number service side session) h = (h.0, h.1, (service.value, h.2))
-    by_stage (CallIsOver number input came end) h = tt
-    by_stage (ServingIsOver number service came end) h = tt
+    by_stage (CallIsOver number input done end) h = tt
+    by_stage (ServingIsOver number service outcome got end) h = tt
     by_stage Taken h = absurd h
 
 still_open : (stage : Stage) → is_session stage ≡ true → is_open (session_of stage) ≡ true
@@ -51,8 +51,8 @@ still_open (Unused end) h = cc
 still_open (Calls number input side session) h = refl
 still_open (Awaits number service serving side) h = refl
 still_open (Serves number service side session) h = refl
-still_open (CallIsOver number input came end) h = cc
-still_open (ServingIsOver number service came end) h = cc
+still_open (CallIsOver number input done end) h = cc
+still_open (ServingIsOver number service outcome got end) h = cc
 still_open Taken h = cc
 
 pub agrees : (e : Ends) → IsWhole e → Agrees (state_of e false)

@@ -57,11 +57,11 @@ unused_by version role (Serves number service side session) h unused is = absurd
   where
     bad : (n : ℕ) (b : Builtin) → ForServing n b ≡ ForNothing → ⊥
     bad n b e = cc
-unused_by version role (CallIsOver number input came end) h unused is = absurd (bad number input.value.items unused)
+unused_by version role (CallIsOver number input done end) h unused is = absurd (bad number input.value.items unused)
   where
     bad : (n : ℕ) (bytes : List ℕ) → ForCall n bytes ≡ ForNothing → ⊥
     bad n bytes e = cc
-unused_by version role (ServingIsOver number service came end) h unused is = absurd (bad number service.value unused)
+unused_by version role (ServingIsOver number service outcome got end) h unused is = absurd (bad number service.value unused)
   where
     bad : (n : ℕ) (b : Builtin) → ForServing n b ≡ ForNothing → ⊥
     bad n b e = cc

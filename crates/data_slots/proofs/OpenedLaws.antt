@@ -118,8 +118,8 @@ session_told f t p (Unused end) is = cc
 session_told f t p (Calls number input side session) is = (record { domain = t; port = p; call = Some number }, refl)
 session_told f t p (Awaits number service serving side) is = (record { domain = f; port = p; call = None }, refl)
 session_told f t p (Serves number service side session) is = (record { domain = f; port = p; call = None }, refl)
-session_told f t p (CallIsOver number input came end) is = cc
-session_told f t p (ServingIsOver number service came end) is = cc
+session_told f t p (CallIsOver number input done end) is = cc
+session_told f t p (ServingIsOver number service outcome got end) is = cc
 session_told f t p Taken is = cc
 
 -- and lies where it is reported to lie

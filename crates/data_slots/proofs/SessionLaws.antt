@@ -73,8 +73,8 @@ turn_open (Calls number input side session) can = refl
 turn_open (Awaits number service serving side) can = refl
 turn_open (Serves number service side session) can = refl
 turn_open (Unused end) can = absurd can
-turn_open (CallIsOver number input came end) can = absurd can
-turn_open (ServingIsOver number service came end) can = absurd can
+turn_open (CallIsOver number input done end) can = absurd can
+turn_open (ServingIsOver number service outcome got end) can = absurd can
 turn_open Taken can = absurd can
 
 -- an end whose session isn't open stays as it is
@@ -83,8 +83,8 @@ shut_stays (Unused end) is = HadNotBegun refl refl
 shut_stays (Calls number input side session) is = absurd (false≢true (sym is))
 shut_stays (Awaits number service serving side) is = absurd (false≢true (sym is))
 shut_stays (Serves number service side session) is = absurd (false≢true (sym is))
-shut_stays (CallIsOver number input came end) is = WasOver (done_view end) refl refl
-shut_stays (ServingIsOver number service came end) is = WasOver (done_view end) refl refl
+shut_stays (CallIsOver number input done end) is = WasOver (done_view end) refl refl
+shut_stays (ServingIsOver number service outcome got end) is = WasOver (done_view end) refl refl
 shut_stays Taken is = HadNotBegun refl refl
 
 -- an end that is used for nothing has no session
@@ -93,8 +93,8 @@ not_begun (Unused end) h = refl
 not_begun (Calls number input side session) h = absurd (call_used number input.value.items h)
 not_begun (Awaits number service serving side) h = absurd (serving_used number service.value h)
 not_begun (Serves number service side session) h = absurd (serving_used number service.value h)
-not_begun (CallIsOver number input came end) h = absurd (call_used number input.value.items h)
-not_begun (ServingIsOver number service came end) h = absurd (serving_used number service.value h)
+not_begun (CallIsOver number input done end) h = absurd (call_used number input.value.items h)
+not_begun (ServingIsOver number service outcome got end) h = absurd (serving_used number service.value h)
 not_begun Taken h = refl
 
 -- ---- its bytes

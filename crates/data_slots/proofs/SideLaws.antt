@@ -16,7 +16,6 @@ use Rattle.channel_session.specs.Calling.{CallerAt, IsCalling, IsSameCall}
 use Rattle.channel_session.specs.Answering.{ServingAt, IsAnswering, IsAtWork}
 use Rattle.data_slots.specs.declared.stage.Stage.TheVariants.{Calls, Serves}
 use Rattle.data_slots.specs.Stages.{IsStage}
-use Rattle.data_slots.specs.declared.results.ServingResult.{ServingResult}
 use Rattle.task_duties.specs.declared.ends.DoneEnd.{DoneEnd}
 use Rattle.task_duties.specs.GivenEnds.{done_view}
 use Rattle.data_slots.specs.declared.side.PageSide.{PageSide}
@@ -49,12 +48,10 @@ serving_owes_seen side.Laid version name outcome got e h = h
 serving_owes_seen (side.Server s) version name outcome got e h = record { owed = h.owed; is_service = h.is_service; got_is = h.got_is; sent = h.sent; fits = h.fits; ended = serving_ended outcome version h.owed e s.name h.ended }
 serving_owes_seen (side.Client c) version name outcome got e h = record { owed = h.owed; is_service = h.is_service; got_is = h.got_is; sent = h.sent; fits = h.fits; ended = serving_ended outcome version h.owed e c.name h.ended }
 
--- what a side that serves has when its call is over, and the view of its end then
-pub serving_over : (version : ℕ) (name : List ℕ) (s : PageSide) (came : ServingResult) (end : DoneEnd) (outcome : Outcome) (got : List ℕ) (e : EndView)
-    → came ≡ record { outcome = outcome; got = got } → done_view end ≡ seen_under s e → ServingOwes version name outcome got e → ServingOwes version name came.outcome came.got (done_view end)
-serving_over version name s came end outcome got e is seen h =
-    subst (λ v. ServingOwes version name came.outcome came.got v) (sym seen)
-    (subst (λ (r : ServingResult). ServingOwes version name r.outcome r.got (seen_under s e)) (sym is) (serving_owes_seen s version name outcome got e h))
+-- what a side that serves has when its call is over, by the view of its end then
+pub serving_over : (version : ℕ) (name : List ℕ) (s : PageSide) (end : DoneEnd) (outcome : Outcome) (got : List ℕ) (e : EndView) → done_view end ≡ seen_under s e → ServingOwes version name outcome got e
+    → ServingOwes version name outcome got (done_view end)
+serving_over version name s end outcome got e seen h = subst (λ v. ServingOwes version name outcome got v) (sym seen) (serving_owes_seen s version name outcome got e h)
 
 -- ---- a session goes on
 

@@ -48,13 +48,13 @@ can_turn version (Unused end) h is = bad is
 can_turn version (Calls number input side session) h is = h.0
 can_turn version (Awaits number service serving side) h is = h.0
 can_turn version (Serves number service side session) h is = h.0
-can_turn version (CallIsOver number input came end) h is = bad is
+can_turn version (CallIsOver number input done end) h is = bad is
   where
-    bad : false ≡ true → CanTurn (CallIsOver number input came end)
+    bad : false ≡ true → CanTurn (CallIsOver number input done end)
     bad e = cc
-can_turn version (ServingIsOver number service came end) h is = bad is
+can_turn version (ServingIsOver number service outcome got end) h is = bad is
   where
-    bad : false ≡ true → CanTurn (ServingIsOver number service came end)
+    bad : false ≡ true → CanTurn (ServingIsOver number service outcome got end)
     bad e = cc
 can_turn version Taken h is = absurd h
 

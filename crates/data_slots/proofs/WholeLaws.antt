@@ -146,8 +146,8 @@ is_shut (Serves number service side session) h = absurd (never_serving number se
   where
     never_serving : (n : ℕ) (b : Builtin) → ForServing n b ≡ ForNothing → ⊥
     never_serving n b h = cc
-is_shut (CallIsOver number input came end) h = refl
-is_shut (ServingIsOver number service came end) h = refl
+is_shut (CallIsOver number input done end) h = refl
+is_shut (ServingIsOver number service outcome got end) h = refl
 is_shut Taken h = refl
 
 pub frames_set : (slots : List Slot) (at : ℕ) (slot slot' : Slot) (used : Use) → frame_of slot' ≡ record (frame_of slot) { used = used }

@@ -10,7 +10,7 @@ use Rattle.task_duties.specs.declared.place.PagePlace.TheVariants.{Payload}
 use Rattle.task_duties.specs.declared.done.ServedDone.{ServedDone}
 use Rattle.task_duties.specs.declared.done.SessionEnd.{SessionEnd}
 use Rattle.task_duties.specs.TaskOwes.{EndAt}
-use Rattle.task_duties.specs.Agent.Sessions.{CallerDone, CallerOwes, IsService, ServingOwes}
+use Rattle.task_duties.specs.Agent.Sessions.{CallerOwes, IsService, ServingOwes}
 use Rattle.data_slots.specs.declared.done.CallOver.{CallOver}
 use Rattle.data_slots.specs.Slots.{Held, held_at, Called, Serves, SlotsState}
 
@@ -25,15 +25,11 @@ pub record AreBack (first : EndAt) (held : List Held) (ends : List EndAt) : Type
 abbrev pub HasEnd : List EndAt → PagePlace → (EndView → Type 0) → Type 0
 HasEnd ends place P = SomeOf (λ e. (e.place ≡ place) × P e.view) ends
 
--- what a call of the agent's own reports
-abbrev pub caller_done : CallOver → CallerDone
-caller_done c = record { outcome = c.outcome; stdout = c.stdout; stderr = c.stderr; got = c.got }
-
 -- a call that has a session reports it, and owes what the end at its place owes; any other call reports nothing
 abbrev pub ReportsCalled : ℕ → ℕ → List EndAt → Option Called → Option CallOver → Type 0
 ReportsCalled domain version ends None None = Unit {0}
 ReportsCalled domain version ends (Some c) (Some over) =
-    (over.to ≡ c.to) × (over.port ≡ c.port) × HasEnd ends (Payload domain c.to c.port) (CallerOwes version c.input (caller_done over))
+    (over.to ≡ c.to) × (over.port ≡ c.port) × HasEnd ends (Payload domain c.to c.port) (CallerOwes version c.input over.done)
 ReportsCalled domain version ends _ _ = ⊥
 
 -- what was served does so too, under any service name

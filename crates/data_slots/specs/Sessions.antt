@@ -24,8 +24,8 @@ abbrev pub session_of : Stage → Session
 session_of (stage.Calls number input side session) = CallsWith session
 session_of (stage.Awaits number service serving side) = AwaitsPage
 session_of (stage.Serves number service side session) = ServesWith session
-session_of (stage.CallIsOver number input came end) = EndedWith (done_view end)
-session_of (stage.ServingIsOver number service came end) = EndedWith (done_view end)
+session_of (stage.CallIsOver number input done end) = EndedWith (done_view end)
+session_of (stage.ServingIsOver number service outcome got end) = EndedWith (done_view end)
 session_of _ = NotBegun
 
 -- the sessions of all ends, each at the place of its end

@@ -12,7 +12,7 @@ use Rattle.task_duties.specs.declared.done.SessionEnd.{SessionEnd}
 use Rattle.page_offer.specs.declared.server.LaidPage.{LaidPage}
 use Rattle.page_offer.specs.Views.{unused_view}
 use Rattle.task_duties.specs.GivenEnds.{done_view, fresh_view}
-use Rattle.task_duties.specs.Agent.Sessions.{chunk, CallerDone, CallerOwes, IsService, ServingOwes}
+use Rattle.task_duties.specs.Agent.Sessions.{chunk, CallerOwes, IsService, ServingOwes}
 use Rattle.qrexec_data.specs.declared.outcome.Outcome.{Outcome}
 use Rattle.qrexec_data.specs.CallerSide.{CallerState, CallerStandsFor}
 use Rattle.qrexec_data.specs.ServingSide.{ServingState, ServingStandsFor}
@@ -20,11 +20,9 @@ use Rattle.channel_session.specs.Calling.{IsCalling}
 use Rattle.channel_session.specs.Answering.{IsAnswering, IsAtWork}
 use Rattle.data_slots.specs.declared.stage.Stage.{Stage}
 use Rattle.data_slots.specs.declared.stage.Stage.TheVariants.{Unused, Calls, Awaits, Serves, CallIsOver, ServingIsOver, Taken}
-use Rattle.data_slots.specs.declared.results.CallerResult.{CallerResult}
 use Rattle.data_slots.specs.declared.slot.Slot.{Slot}
 use Rattle.data_slots.specs.declared.done.SessionDone.{SessionDone}
 use Rattle.data_slots.specs.declared.done.SessionDone.TheVariants.{Call, Serving}
-use Rattle.data_slots.specs.Done.{caller_done}
 use Rattle.data_slots.specs.Slots.{Held, held_of}
 use Rattle.data_slots.specs.Sides.{HasLaid, IsSideOf, seen_under, is_late_unused, is_late_side, is_late_done}
 
@@ -43,8 +41,8 @@ use_of (Unused end) = ForNothing
 use_of (Calls number input side session) = ForCall number input.value.items
 use_of (Awaits number service serving side) = ForServing number service.value
 use_of (Serves number service side session) = ForServing number service.value
-use_of (CallIsOver number input came end) = ForCall number input.value.items
-use_of (ServingIsOver number service came end) = ForServing number service.value
+use_of (CallIsOver number input done end) = ForCall number input.value.items
+use_of (ServingIsOver number service outcome got end) = ForServing number service.value
 use_of Taken = ForNothing
 
 abbrev pub end_of : Stage → EndView
@@ -52,8 +50,8 @@ end_of (Unused end) = fresh_view end
 end_of (Calls number input side session) = seen_under side (view session.end)
 end_of (Awaits number service serving side) = unused_view side Client
 end_of (Serves number service side session) = seen_under side (view session.end)
-end_of (CallIsOver number input came end) = done_view end
-end_of (ServingIsOver number service came end) = done_view end
+end_of (CallIsOver number input done end) = done_view end
+end_of (ServingIsOver number service outcome got end) = done_view end
 end_of Taken = no_end
 
 -- whether its page is laid when it is first used
@@ -62,8 +60,8 @@ is_late (Unused end) = is_late_unused end
 is_late (Calls number input side session) = is_late_side side
 is_late (Awaits number service serving side) = true
 is_late (Serves number service side session) = is_late_side side
-is_late (CallIsOver number input came end) = is_late_done end
-is_late (ServingIsOver number service came end) = is_late_done end
+is_late (CallIsOver number input done end) = is_late_done end
+is_late (ServingIsOver number service outcome got end) = is_late_done end
 is_late Taken = false
 
 -- whether a session is open
@@ -85,10 +83,6 @@ pub record IsNewServing (serving : ServingState Builtin) : Type 0 where
   pub undecided : serving.answering.outcome ≡ None
   pub nothing : serving.inbox.got ≡ []
 
--- what a caller has of a call that is over
-abbrev pub result_of : CallerResult → CallerDone
-result_of r = record { outcome = r.outcome; stdout = r.stdout; stderr = r.stderr; got = r.got }
-
 -- what holds of an end of an agent of this version
 abbrev pub IsStage : ℕ → Stage → Type 0
 IsStage version (Unused end) = IsUnused (fresh_view end)
@@ -98,9 +92,9 @@ IsStage version (Awaits number service serving side) =
     IsNewServing serving × (serving.answering.own ≡ version) × ServingStandsFor builtin_owes (builtin_owes service.value) serving []
 IsStage version (Serves number service side session) =
     IsAtWork session.serving session.end × (session.serving.answering.own ≡ version) × IsAnswering (builtin_owes service.value) session.serving session.end
-IsStage version (CallIsOver number input came end) = CallerOwes version input.value.items (result_of came) (done_view end)
-IsStage version (ServingIsOver number service came end) =
-    (name : List ℕ) → IsService name (builtin_owes service.value) → ServingOwes version name came.outcome came.got (done_view end)
+IsStage version (CallIsOver number input done end) = CallerOwes version input.value.items done (done_view end)
+IsStage version (ServingIsOver number service outcome got end) =
+    (name : List ℕ) → IsService name (builtin_owes service.value) → ServingOwes version name outcome got (done_view end)
 IsStage version Taken = ⊥
 
 -- the end is between two calls, or it is retired and wasn't turned over
@@ -109,8 +103,8 @@ CanRetire (Unused end) = (fresh_view end).idle ≡ true
 CanRetire (Calls number input side session) = IsOpen session.end × IsSideOf side (view session.end)
 CanRetire (Awaits number service serving side) = Unit {0}
 CanRetire (Serves number service side session) = ((view session.end).idle ≡ true) × IsSideOf side (view session.end)
-CanRetire (CallIsOver number input came end) = (done_view end).turned ≡ false
-CanRetire (ServingIsOver number service came end) = (done_view end).turned ≡ false
+CanRetire (CallIsOver number input done end) = (done_view end).turned ≡ false
+CanRetire (ServingIsOver number service outcome got end) = (done_view end).turned ≡ false
 CanRetire Taken = ⊥
 
 -- an end of this role that has done nothing yet
@@ -146,7 +140,7 @@ told_of place used = None
 abbrev pub IsReportOf : ℕ → PagePlace → Use → EndView → SessionDone → Type 0
 IsReportOf version place ForNothing end report = Unit {0}
 IsReportOf version (Payload from to port) (ForCall number input) end (Call n over) =
-    (n ≡ number) × (over.to ≡ to) × (over.port ≡ port) × CallerOwes version input (caller_done over) end
+    (n ≡ number) × (over.to ≡ to) × (over.port ≡ port) × CallerOwes version input over.done end
 IsReportOf version (Payload from to port) (ForServing number service) end (Serving n done) =
     (n ≡ number) × (done.from ≡ from) × (done.port ≡ port) × ((name : List ℕ) → IsService name (builtin_owes service) → ServingOwes version name done.outcome done.got end)
 IsReportOf version place used end report = ⊥

@@ -1,10 +1,8 @@
 //! What came of the sessions of an agent's data ends.
 ghost use Rattle.std.specs.Prelude.{◌≡◌};
 
-use qrexec_data::Outcome;
-use qrexec_frame::Bytes;
 use std::mem;
-use task_duties::{RetiredEnd, ServedDone};
+use task_duties::{CallerDone, RetiredEnd, ServedDone};
 
 /// What came of the session of a call of the agent's own.
 #[derive(Debug, Drop)]
@@ -13,14 +11,8 @@ pub struct CallOver {
     pub to: u32,
     /// The port of the session.
     pub port: u32,
-    /// How the session ended.
-    pub outcome: Outcome,
-    /// What was read of the output.
-    pub stdout: Bytes,
-    /// What was read of the error stream.
-    pub stderr: Bytes,
-    /// All bytes that were got.
-    pub got: Bytes,
+    /// What the caller has of it.
+    pub done: CallerDone,
 }
 
 /// The data ends of an agent that is done with them.

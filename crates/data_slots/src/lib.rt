@@ -11,7 +11,6 @@ mod finish;
 mod index;
 mod note;
 mod opening;
-mod results;
 mod setup;
 mod side;
 mod slot;

@@ -8,9 +8,8 @@ ghost use Rattle.data_slots.specs.Slots.{held_at};
 ghost use Rattle.data_slots.specs.Sessions.{TakesTurn, ComesToItsEnd, session_of};
 ghost use Rattle.data_slots.specs.Stages.{ForCall, ForServing, IsStage, CanRetire, CanTurn, IsUnusedBy, IsNewCaller, IsNewServing, HasComeOut, IsReportOf, HasPage, is_nothing, is_session, is_late, use_of, told_of, place_of, frame_of};
 
-use crate::done::SessionDone;
+use crate::done::{CallOver, SessionDone};
 use crate::opening::lay;
-use crate::results::{call_over, served_done};
 use crate::side::retire_unused;
 use crate::stage::Stage;
 use page_offer::LaidPage;
@@ -19,7 +18,7 @@ use service_gate::Builtin;
 use std::alloc::Global;
 use std::mem;
 use std::snapshot::Snapshot;
-use task_duties::{DoneEnd, PagePlace, RetiredEnd, SessionEnd};
+use task_duties::{DoneEnd, PagePlace, RetiredEnd, ServedDone, SessionEnd};
 use vchan_io::Memory;
 
 /// A data end, with its place.
@@ -228,11 +227,11 @@ impl<'p> Slot<'p> {
             }
             Stage::CallIsOver {
                 number,
-                came,
+                done,
                 end,
                 ..
             } => {
-                let over = call_over(to, port, came);
+                let over = CallOver { to, port, done };
                 let retired = end;
                 (
                     RetiredEnd { place, retired },
@@ -241,11 +240,17 @@ impl<'p> Slot<'p> {
             }
             Stage::ServingIsOver {
                 number,
-                came,
+                outcome,
+                got,
                 end,
                 ..
             } => {
-                let done = served_done(from, port, came);
+                let done = ServedDone {
+                    from,
+                    port,
+                    outcome,
+                    got,
+                };
                 let retired = end;
                 (
                     RetiredEnd { place, retired },

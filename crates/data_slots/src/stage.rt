@@ -13,14 +13,14 @@ ghost use Rattle.data_slots.specs.Slots.{held_of};
 ghost use Rattle.data_slots.specs.Sessions.{TakesTurn, LosesNothing, ComesToItsEnd, session_of};
 ghost use Rattle.data_slots.specs.Stages.{IsStage, CanRetire, CanTurn, HasComeOut, is_session, framed};
 
-use crate::results::{CallerResult, ServingResult, caller_result, serving_result};
 use crate::side::{PageSide, retire_unused};
-use channel_session::{CallerSession, ServingSession};
+use channel_session::{CallerEnd, CallerSession, ServingEnd, ServingSession};
 use page_offer::UnlaidClient;
 use qrexec_data::{Outcome, Serving};
+use qrexec_frame::Bytes;
 use service_gate::Builtin;
 use std::snapshot::Snapshot;
-use task_duties::{DoneEnd, UnusedEnd};
+use task_duties::{CallerDone, DoneEnd, UnusedEnd};
 use vchan_io::Memory;
 
 /// What an end is used for.
@@ -55,14 +55,15 @@ pub(crate) enum Stage<'p> {
     CallIsOver {
         number: usize,
         input: Snapshot<Vec<u8>>,
-        came: CallerResult,
+        done: CallerDone,
         end: DoneEnd,
     },
     /// A call that the agent served and that is over.
     ServingIsOver {
         number: usize,
         service: Snapshot<Builtin>,
-        came: ServingResult,
+        outcome: Outcome,
+        got: Bytes,
         end: DoneEnd,
     },
     /// Its end is being put to another use. No call leaves a slot like this.
@@ -138,11 +139,12 @@ impl<'p> Stage<'p> {
                 side,
                 session,
             } => {
-                let (came, end) = caller_result(session.finish(outcome), side);
+                let CallerEnd { done, retired } = session.finish(outcome);
+                let end = side.finish(retired);
                 Stage::CallIsOver {
                     number,
                     input,
-                    came,
+                    done,
                     end,
                 }
             }
@@ -152,11 +154,13 @@ impl<'p> Stage<'p> {
                 side,
                 session,
             } => {
-                let (came, end) = serving_result(session.finish(outcome), side);
+                let ServingEnd { got, retired, .. } = session.finish(outcome);
+                let end = side.finish(retired);
                 Stage::ServingIsOver {
                     number,
                     service,
-                    came,
+                    outcome,
+                    got,
                     end,
                 }
             }

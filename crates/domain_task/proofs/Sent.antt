@@ -11,7 +11,9 @@ use Rattle.std.specs.contracts.impls.GlobalAllocator.TheImpl.{ghosts}
 use Rattle.std.below.core.proofs.snapshot.Sent.{snapshot_send}
 use Rattle.vchan_rule.specs.contracts.end.End as end
 use Rattle.vchan_rule.proofs.Sent.{end_send}
+use Rattle.qrexec_frame.proofs.bytes.Bytes.TheSendSync as bytes
 use Rattle.qrexec_frame.proofs.decoder.Decoder.TheSendSync as decoder
+use Rattle.qrexec_data.proofs.outcome.Outcome.TheSendSync as outcome
 use Rattle.qrexec_data.proofs.outcome.SessionFault.TheSendSync as fault
 use Rattle.service_gate.specs.contracts.builtin.Builtin as service
 use Rattle.control_port.proofs.moves.Moves.TheSendSync as moves
@@ -29,6 +31,7 @@ use Rattle.channel_session.proofs.Sent.{caller_send, serving_send}
 use Rattle.qrexec_data.proofs.serving.Serving.TheSendSync as serving
 use Rattle.service_gate.proofs.builtin.Builtin.TheSendSync as builtin
 use Rattle.task_duties.proofs.done.CallDone.TheSendSync as call_done
+use Rattle.task_duties.proofs.done.CallerDone.TheSendSync as caller_done
 use Rattle.task_duties.proofs.done.ServedDone.TheSendSync as served_done
 use Rattle.task_duties.proofs.done.ControlEnd.TheSendSync as control_end
 use Rattle.task_duties.proofs.done.SessionEnd.TheSendSync as session_end
@@ -42,8 +45,6 @@ use Rattle.task_duties.specs.contracts.ends.DataEnd as data_end
 use Rattle.data_slots.specs.contracts.note.CallNote as call_note
 use Rattle.data_slots.specs.contracts.note.ServedNote as served_note
 use Rattle.data_slots.specs.contracts.side.PageSide as side
-use Rattle.data_slots.proofs.results.CallerResult.TheSendSync as caller_result
-use Rattle.data_slots.proofs.results.ServingResult.TheSendSync as serving_result
 use Rattle.data_slots.specs.contracts.stage.Stage as stage
 use Rattle.data_slots.specs.contracts.slot.Slot as slot
 use Rattle.data_slots.specs.contracts.ends.Ends as ends
@@ -132,8 +133,8 @@ stage_send κ =
           (
             (search sendable, (snapshot_send service.the_row, (side_send, (serving_send κ, tt)))),
             (
-              (search sendable, (snapshot_send (vec.the_row u8 global.the_row ghosts), (caller_result.the_send, (done_send, tt)))),
-              ((search sendable, (snapshot_send service.the_row, (serving_result.the_send, (done_send, tt)))), (tt, tt)),
+              (search sendable, (snapshot_send (vec.the_row u8 global.the_row ghosts), (caller_done.the_send, (done_send, tt)))),
+              ((search sendable, (snapshot_send service.the_row, (outcome.the_send, (bytes.the_send, (done_send, tt))))), (tt, tt)),
             ),
           ),
         ),

@@ -25,7 +25,8 @@ use Rattle.task_duties.specs.declared.place.PagePlace.TheVariants.{Control, Payl
 use Rattle.task_duties.specs.Places.{numbers}
 use Rattle.task_duties.specs.Hearing.{to_agent, to_broker, hears}
 use Rattle.task_duties.specs.Words.{ident_of, exec_line}
-use Rattle.task_duties.specs.Agent.Sessions.{CallerDone, ServingOwes, IsService}
+use Rattle.task_duties.specs.declared.done.CallerDone.{CallerDone}
+use Rattle.task_duties.specs.Agent.Sessions.{ServingOwes, IsService}
 use Rattle.task_duties.specs.declared.done.CallEnd.{CallEnd}
 use Rattle.task_duties.specs.declared.done.CallEnd.TheVariants.{Session, Refused as WasRefused, Unanswered}
 use Rattle.task_duties.specs.declared.done.CallDone.{CallDone}

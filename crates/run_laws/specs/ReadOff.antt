@@ -21,7 +21,7 @@ use Rattle.task_duties.specs.declared.place.PagePlace.{PagePlace}
 use Rattle.task_duties.specs.declared.place.PagePlace.TheVariants.{Control, Payload}
 use Rattle.task_duties.specs.Places.{is_place}
 use Rattle.task_duties.specs.Words.{ident_of}
-use Rattle.task_duties.specs.Agent.Sessions.{CallerDone}
+use Rattle.task_duties.specs.declared.done.CallerDone.{CallerDone}
 use Rattle.task_duties.specs.Agent.Owes.{caller_done}
 use Rattle.task_duties.specs.declared.done.CallDone.{CallDone}
 use Rattle.task_duties.specs.declared.done.CallEnd.{CallEnd}

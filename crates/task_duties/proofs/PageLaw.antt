@@ -18,7 +18,8 @@ use Rattle.qrexec_data.specs.Sending.{agreed, most, Begins, IsCallerStream, IsSe
 use Rattle.qrexec_data.specs.Fitting.{FitsCaller, FitsServing}
 use Rattle.qrexec_data.proofs.SessionLaws.{caller_fits, caller_done, caller_undecided, serving_reads, serving_waits}
 use Rattle.qrexec_data.specs.Laws.{FitsTriple, ReadsInput, IsVersion}
-use Rattle.task_duties.specs.Agent.Sessions.{chunk, IsClosed, CallerDone, CallerOwes, CallerEnded, ServingOwes, ServingEnded}
+use Rattle.task_duties.specs.declared.done.CallerDone.{CallerDone}
+use Rattle.task_duties.specs.Agent.Sessions.{chunk, IsClosed, CallerOwes, CallerEnded, ServingOwes, ServingEnded}
 
 is_empty : (a b : List ℕ) → a ++ b ≡ [] → a ≡ []
 is_empty [] b h = refl

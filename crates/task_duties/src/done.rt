@@ -46,6 +46,19 @@ pub struct CallDone {
     pub end: CallEnd,
 }
 
+/// What a caller has of a session that is over.
+#[derive(Debug, Drop)]
+pub struct CallerDone {
+    /// How the session came out.
+    pub outcome: Outcome,
+    /// What was read of the output.
+    pub stdout: Bytes,
+    /// What was read of the error output.
+    pub stderr: Bytes,
+    /// All bytes that were got.
+    pub got: Bytes,
+}
+
 /// A session in which an agent served.
 #[derive(Debug, Drop)]
 pub struct ServedDone {

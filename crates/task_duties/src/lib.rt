@@ -13,6 +13,6 @@ mod ends;
 pub mod laws;
 mod place;
 
-pub use done::{CallDone, CallEnd, ControlEnd, ServedDone, SessionEnd};
+pub use done::{CallDone, CallEnd, CallerDone, ControlEnd, ServedDone, SessionEnd};
 pub use ends::{DataEnd, DoneEnd, RetiredEnd, UnmadeEnds, UnusedEnd};
 pub use place::PagePlace;

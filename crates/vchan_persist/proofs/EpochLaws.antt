@@ -21,8 +21,8 @@ use Rattle.qrexec_data.specs.Seeing.{Exited, caller_sees, serving_sees}
 use Rattle.qrexec_data.specs.Fitting.{FitsCaller}
 use Rattle.channel_session.specs.declared.caller.CallerEnd.{CallerEnd}
 use Rattle.channel_session.specs.declared.serving.ServingEnd.{ServingEnd}
-use Rattle.channel_session.specs.Ended.{done_of}
-use Rattle.task_duties.specs.Agent.Sessions.{CallerDone, CallerOwes, IsService}
+use Rattle.task_duties.specs.declared.done.CallerDone.{CallerDone}
+use Rattle.task_duties.specs.Agent.Sessions.{CallerOwes, IsService}
 use Rattle.task_duties.proofs.PageLaw.{IsCallDone, outcome_done}
 use Rattle.vchan_persist.specs.declared.client.Client.{Client}
 use Rattle.vchan_persist.specs.declared.client.Client.TheVariants.{Call, Hostile}
@@ -66,7 +66,7 @@ pub record IsServed (name stdin : List ℕ) (done : CallerDone) (serving : EndVi
   pub call_done : IsCallDone owed stdin done serving
 
 pub served : (name stdin : List ℕ) (service : Builtin) (page : PageView) (caller : CallerEnd) (serving : ServingEnd) (s : Settled) → IsService name (builtin_owes service) → HasCalled page.table stdin caller → HasServed page.table service serving
-    → IsSettledBy page serving.retired caller.retired s → IsServed name stdin (done_of caller) (last_view serving.retired)
+    → IsSettledBy page serving.retired caller.retired s → IsServed name stdin caller.done (last_view serving.retired)
 served name stdin service page caller serving s named called served_end by =
     let sv = last_view serving.retired in
     let cv = last_view caller.retired in
@@ -78,7 +78,7 @@ served name stdin service page caller serving s named called served_end by =
     record {
       owed = owes.owed;
       is_service = owes.is_service;
-      call_done = outcome_done 3 3 name stdin (done_of caller) serving.outcome serving.got cv sv (record { least = omega arith; small = omega arith }) (record { least = omega arith; small = omega arith }) (exchanged sv cv honest') called.owes owes
+      call_done = outcome_done 3 3 name stdin caller.done serving.outcome serving.got cv sv (record { least = omega arith; small = omega arith }) (record { least = omega arith; small = omega arith }) (exchanged sv cv honest') called.owes owes
           (λ x. small_code name x (owes.owed x) (owes.is_service x));
     }
 
@@ -108,8 +108,8 @@ answered_with name stdin stdout stderr code done cv sv s is owes honest server_i
     )
 
 -- the epoch of a call, whose exit code goes through 32 bits
-pub call_comes : (page : PageView) (caller : CallerEnd) (serving : ServingEnd) (s : Settled) (code shown : ℤ) → IsSettledBy page serving.retired caller.retired s → caller.outcome ≡ Done code → (FitsSigned w32 code → shown ≡ code)
-    → (stdin : List ℕ) (service : Builtin) → HasCalled page.table stdin caller → HasServed page.table service serving → ComesTo (words_of page) (Call stdin) service (result.Answered shown caller.stdout caller.stderr) s
+pub call_comes : (page : PageView) (caller : CallerEnd) (serving : ServingEnd) (s : Settled) (code shown : ℤ) → IsSettledBy page serving.retired caller.retired s → caller.done.outcome ≡ Done code → (FitsSigned w32 code → shown ≡ code)
+    → (stdin : List ℕ) (service : Builtin) → HasCalled page.table stdin caller → HasServed page.table service serving → ComesTo (words_of page) (Call stdin) service (result.Answered shown caller.done.stdout caller.done.stderr) s
 call_comes page caller serving s code shown by decided same stdin service called served_end = record {
   settled = by.settled;
   words_are = by.words_are;
@@ -118,13 +118,13 @@ call_comes page caller serving s code shown by decided same stdin service called
   page_is = λ name named. (all name named).1;
 }
   where
-    all : (name : List ℕ) → IsService name (builtin_owes service) → (answer_of name (Call stdin) ≡ Some (result.Answered shown caller.stdout caller.stderr)) × IsAnswered name stdin s
+    all : (name : List ℕ) → IsService name (builtin_owes service) → (answer_of name (Call stdin) ≡ Some (result.Answered shown caller.done.stdout caller.done.stderr)) × IsAnswered name stdin s
     all name named =
         let is = served name stdin service page caller serving s named called served_end by in
         let gives : code ≡ (is.owed stdin).code = let both = is.call_done.outcome in cc in
         let small : FitsSigned w32 code = subst (FitsSigned w32) (sym gives) (small_code name stdin (is.owed stdin) (is.is_service stdin)) in
-        let with_code = answered_with name stdin caller.stdout caller.stderr code (done_of caller) (last_view caller.retired) (last_view serving.retired) s is called.owes called.honest by.server_is by.client_is decided refl refl in
-        subst (λ (n : ℤ). (answer_of name (Call stdin) ≡ Some (result.Answered n caller.stdout caller.stderr)) × IsAnswered name stdin s) (sym (same small)) with_code
+        let with_code = answered_with name stdin caller.done.stdout caller.done.stderr code caller.done (last_view caller.retired) (last_view serving.retired) s is called.owes called.honest by.server_is by.client_is decided refl refl in
+        subst (λ (n : ℤ). (answer_of name (Call stdin) ≡ Some (result.Answered n caller.done.stdout caller.done.stderr)) × IsAnswered name stdin s) (sym (same small)) with_code
 
 -- a client that handed back a call has called
 pub by_called : (words : PageStart) (page : TableId) (caller : CallerEnd) (serving : ServingEnd) (r : EpochResult) (s : Settled) (done : SideDone) → done ≡ Called caller

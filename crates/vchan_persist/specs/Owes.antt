@@ -9,7 +9,6 @@ use Rattle.service_gate.specs.Owing.{builtin_owes}
 use Rattle.service_gate.specs.declared.builtin.Builtin.{Builtin}
 use Rattle.channel_session.specs.declared.caller.CallerEnd.{CallerEnd}
 use Rattle.channel_session.specs.declared.serving.ServingEnd.{ServingEnd}
-use Rattle.channel_session.specs.Ended.{done_of}
 use Rattle.task_duties.specs.Agent.Sessions.{CallerOwes, ServingOwes, IsService}
 use Rattle.task_duties.specs.Hostile.Trail.{retiring}
 use Rattle.vchan_persist.specs.declared.client.Client.{Client}
@@ -35,7 +34,7 @@ version = 3
 pub record HasCalled (page : TableId) (stdin : List ℕ) (end : CallerEnd) : Type 0 where
   pub is_end : IsEndOf page ClientEnd end.retired
   pub honest : (last_view end.retired).turned ≡ false
-  pub owes : CallerOwes version stdin (done_of end) (last_view end.retired)
+  pub owes : CallerOwes version stdin end.done (last_view end.retired)
 
 -- by a client that was refused when it connected
 pub record IsRefused (page : TableId) (end : SeatedSide) : Type 0 where

@@ -16,6 +16,7 @@ use crate::epoch::EpochResult;
 use crate::task::SideDone;
 use channel_session::{CallerEnd, ServingEnd};
 use qrexec_data::Outcome;
+use task_duties::CallerDone;
 use vchan_io::Memory;
 use vchan_rule::{Page, Retired, Settled};
 
@@ -42,14 +43,14 @@ fn settle_call(page: Page, caller: CallerEnd, server: ServingEnd) -> Epoch
     requires { (name : List ℕ) × (stdin : List ℕ) × (service : Service) × IsService name (builtin_owes service) × HasCalled page.table stdin caller × HasServed page.table service server }
     ensures { (stdin : List ℕ) (service : Service) → HasCalled page.table stdin caller → HasServed page.table service server → ComesTo (words_of page) (Call stdin) service result.result result.settled }
 {
-    let CallerEnd {
+    let CallerEnd { done, retired } = caller;
+    let settled = settle_page(page, server.retired, retired);
+    let CallerDone {
         outcome,
         stdout,
         stderr,
-        got: _,
-        retired,
-    } = caller;
-    let settled = settle_page(page, server.retired, retired);
+        ..
+    } = done;
     match outcome {
         Outcome::Done { code } => Epoch {
             result: EpochResult::Answered {

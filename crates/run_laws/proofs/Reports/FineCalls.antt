@@ -22,7 +22,8 @@ use Rattle.task_duties.specs.declared.place.PagePlace.TheVariants.{Control, Payl
 use Rattle.task_duties.specs.Words.{ident_of}
 use Rattle.task_duties.specs.Hearing.{to_agent}
 use Rattle.task_duties.specs.Agent.Answers.{Answer, Waits, IsRefused, At}
-use Rattle.task_duties.specs.Agent.Sessions.{CallerDone, CallerOwes, ServingOwes}
+use Rattle.task_duties.specs.declared.done.CallerDone.{CallerDone}
+use Rattle.task_duties.specs.Agent.Sessions.{CallerOwes, ServingOwes}
 use Rattle.task_duties.specs.declared.done.CallEnd.{CallEnd}
 use Rattle.task_duties.specs.declared.done.CallEnd.TheVariants.{Session, Refused as WasRefused, Unanswered}
 use Rattle.task_duties.specs.Agent.Owes.{ReportsAnswer, caller_done}

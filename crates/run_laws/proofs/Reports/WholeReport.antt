@@ -31,7 +31,8 @@ use Rattle.task_duties.specs.declared.place.PagePlace.{PagePlace}
 use Rattle.task_duties.specs.declared.place.PagePlace.TheVariants.{Control, Payload}
 use Rattle.task_duties.specs.Places.{numbers}
 use Rattle.task_duties.specs.Words.{ident_of}
-use Rattle.task_duties.specs.Agent.Sessions.{chunk, CallerDone, CallerOwes, CallerEnded}
+use Rattle.task_duties.specs.declared.done.CallerDone.{CallerDone}
+use Rattle.task_duties.specs.Agent.Sessions.{chunk, CallerOwes, CallerEnded}
 use Rattle.task_duties.specs.declared.done.CallEnd.{CallEnd}
 use Rattle.task_duties.specs.declared.done.CallEnd.TheVariants.{Session, Refused as WasRefused, Unanswered}
 use Rattle.task_duties.proofs.Elements.{Has, has_from, contains_from, has_append, has_map, has_map_back, has_flat_map}

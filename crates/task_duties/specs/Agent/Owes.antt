@@ -19,7 +19,8 @@ use Rattle.task_duties.specs.declared.done.ControlEnd.TheVariants.{Drained, Gone
 use Rattle.task_duties.specs.Hearing.{to_agent, to_broker, IsSaid, Heard, hears}
 use Rattle.task_duties.specs.Agent.Given.{AgentPlan}
 use Rattle.task_duties.specs.Agent.Answers.{Answer, Waits, IsRefused, At, Asked, Served, Answers, answers, answer_in}
-use Rattle.task_duties.specs.Agent.Sessions.{CallerDone, CallerOwes, ServingOwes}
+use Rattle.task_duties.specs.declared.done.CallerDone.{CallerDone}
+use Rattle.task_duties.specs.Agent.Sessions.{CallerOwes, ServingOwes}
 use Rattle.task_duties.specs.Agent.Saying.{asking, asking_of, IsOfVersion, KeepsTo, IsTold}
 
 -- what it reports of the session of a call

@@ -10,6 +10,7 @@ use Rattle.qrexec_data.specs.Seeing.{caller_sees, serving_sees}
 use Rattle.qrexec_data.specs.Sending.{CallerMaySend, ServingMaySend, SentAll}
 use Rattle.qrexec_data.specs.Fitting.{FitsCaller, FitsServing}
 use Rattle.end_view.specs.EndView.{EndView}
+use Rattle.task_duties.specs.declared.done.CallerDone.{CallerDone}
 
 -- the greatest number of bytes that a session of an agent puts into one message of version 3
 abbrev pub chunk : ℕ
@@ -27,13 +28,6 @@ pub record IsGone (end : EndView) : Type 0 where
   pub ended : end.ended ≡ Some PeerGone
 
 -- ---- a caller
-
--- what a caller reports: its outcome, the two outputs that it read, and all bytes that it got
-pub record CallerDone : Type 0 where
-  pub outcome : Outcome
-  pub stdout : List ℕ
-  pub stderr : List ℕ
-  pub got : List ℕ
 
 -- the state of a caller's end that its outcome implies
 abbrev pub CallerEnded : Outcome → EndView → Type 0

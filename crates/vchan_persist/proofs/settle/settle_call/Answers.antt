@@ -2,14 +2,13 @@
 use Rattle.std.specs.Int.{w32}
 use Rattle.std.proofs.lemmas.Int.{to_z-of_z}
 use Rattle.vchan_rule.specs.Seated.{last_view}
-use Rattle.channel_session.specs.Ended.{done_of}
 use Rattle.vchan_persist.proofs.EpochLaws.{call_comes, no_other, served}
 use Rattle.vchan_persist.proofs.settle.settle_call.Goals as goal
 
 pub unreachable-requires : goal.unreachable-requires
 unreachable-requires c =
     let given = c.requires in
-    no_other given.0 given.1 (done_of c.args.caller) (last_view c.args.server.retired)
+    no_other given.0 given.1 c.args.caller.done (last_view c.args.server.retired)
     (served given.0 given.1 given.2 c.args.page c.args.caller c.args.server c.settle_page-settled.result given.3 given.4 given.5 c.settle_page-settled.ensures) c.in_default.not-Done
 
 pub returns : goal.returns

@@ -1,12 +1,10 @@
-use Rattle.std.proofs.Common.{ap, sym, ◌∙◌, subst}
+use Rattle.std.proofs.Common.{sym, subst}
 use Rattle.vchan_rule.specs.Seated.{last_view}
 use Rattle.task_duties.specs.GivenEnds.{done_view}
 use Rattle.service_gate.specs.Owing.{builtin_owes}
-use Rattle.qrexec_data.specs.declared.outcome.Outcome.{Outcome}
 use Rattle.task_duties.specs.Agent.Sessions.{ServingOwes}
 use Rattle.data_slots.specs.declared.stage.Stage.{Stage}
 use Rattle.data_slots.specs.declared.stage.Stage.TheVariants.{Serves}
-use Rattle.data_slots.specs.declared.results.ServingResult.{ServingResult}
 use Rattle.data_slots.specs.Stages.{IsStage}
 use Rattle.data_slots.specs.Sessions.{EndedWith, ComesToItsEnd, session_of}
 use Rattle.data_slots.proofs.SideLaws.{serving_over}
@@ -19,19 +17,17 @@ returns-in-Serves-clause-stage c = λ version stage name is_service.
     let ended = c.finish-in-Serves.result in
     let was : IsStage version (Serves c.in-Serves.number c.in-Serves.service c.in-Serves.side c.in-Serves.session) = subst P c.in-Serves.is stage in
     let owed = c.finish-in-Serves.ensures.owed name (builtin_owes c.in-Serves.service.value) is_service was.2 in
-    let with_outcome : Outcome → ServingResult = λ o. record { outcome = o; got = ended.got } in
-    serving_over version name c.in-Serves.side c.serving_result-came.result.0 c.serving_result-came.result.1 c.args.outcome ended.got (last_view ended.retired)
-    (c.serving_result-came.ensures.result ∙ ap with_outcome c.finish-in-Serves.ensures.outcome) c.serving_result-came.ensures.end
+    serving_over version name c.in-Serves.side c.finish-end-in-Serves.result c.args.outcome ended.got (last_view ended.retired) c.finish-end-in-Serves.ensures.view
     (subst (λ v. ServingOwes v name c.args.outcome ended.got (last_view ended.retired)) was.1 owed)
 
 pub returns-in-Calls-clause-ends : goal.returns-in-Calls-clause-ends
 returns-in-Calls-clause-ends c =
-    let end = c.caller_result-came.result.1 in
+    let end = c.finish-end.result in
     subst (λ (s : Stage). ComesToItsEnd (session_of s) (EndedWith (done_view end))) (sym c.in-Calls.is)
-    (call_ends c.in-Calls.session c.in-Calls.side (last_view c.finish.result.retired) end c.finish.ensures.end c.caller_result-came.ensures.end)
+    (call_ends c.in-Calls.session c.in-Calls.side (last_view c.finish.result.retired) end c.finish.ensures.end c.finish-end.ensures.view)
 
 pub returns-in-Serves-clause-ends : goal.returns-in-Serves-clause-ends
 returns-in-Serves-clause-ends c =
-    let end = c.serving_result-came.result.1 in
+    let end = c.finish-end-in-Serves.result in
     subst (λ (s : Stage). ComesToItsEnd (session_of s) (EndedWith (done_view end))) (sym c.in-Serves.is)
-    (serving_ends c.in-Serves.session c.in-Serves.side (last_view c.finish-in-Serves.result.retired) end c.finish-in-Serves.ensures.end c.serving_result-came.ensures.end)
+    (serving_ends c.in-Serves.session c.in-Serves.side (last_view c.finish-in-Serves.result.retired) end c.finish-in-Serves.ensures.end c.finish-end-in-Serves.ensures.view)
