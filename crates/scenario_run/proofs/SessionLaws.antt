@@ -79,7 +79,7 @@ pairs_seen xs pairs i j d less within =
 
 -- by the caller's number, the server's number and the port
 abbrev pub Upto : Session → Session → Type 0
-Upto a b = (a.from < b.from) ⊎ ((a.from ≡ b.from) × ((a.to < b.to) ⊎ ((a.to ≡ b.to) × (a.port ≤ b.port))))
+Upto a b = (a.done.from < b.done.from) ⊎ ((a.done.from ≡ b.done.from) × ((a.to < b.to) ⊎ ((a.to ≡ b.to) × (a.done.port ≤ b.done.port))))
 
 upto_trans : (a b c : Session) → Upto a b → Upto b c → Upto a c
 upto_trans a b c (inl x) (inl y) = inl (omega (arith, x, y))
@@ -87,7 +87,7 @@ upto_trans a b c (inl x) (inr y) = inl (omega (arith, x, y.0))
 upto_trans a b c (inr x) (inl y) = inl (omega (arith, x.0, y))
 upto_trans a b c (inr x) (inr y) = inr (x.0 ∙ y.0, by x.1 y.1)
   where
-    by : (a.to < b.to) ⊎ ((a.to ≡ b.to) × (a.port ≤ b.port)) → (b.to < c.to) ⊎ ((b.to ≡ c.to) × (b.port ≤ c.port)) → (a.to < c.to) ⊎ ((a.to ≡ c.to) × (a.port ≤ c.port))
+    by : (a.to < b.to) ⊎ ((a.to ≡ b.to) × (a.done.port ≤ b.done.port)) → (b.to < c.to) ⊎ ((b.to ≡ c.to) × (b.done.port ≤ c.done.port)) → (a.to < c.to) ⊎ ((a.to ≡ c.to) × (a.done.port ≤ c.done.port))
     by (inl p) (inl q) = inl (omega (arith, p, q))
     by (inl p) (inr q) = inl (omega (arith, p, q.0))
     by (inr p) (inl q) = inl (omega (arith, p.0, q))
@@ -96,18 +96,18 @@ upto_trans a b c (inr x) (inr y) = inr (x.0 ∙ y.0, by x.1 y.1)
 -- if a session is ordered up to another, the other doesn't stand before it
 not_before : (a b : Session) → Upto a b → stands_before (seen b) (seen a) ≡ false
 not_before a b (inl x) =
-    let one : nat_lt b.from a.from ≡ false = grind (arith, nat_tests, x) in
-    let two : (b.from == a.from) ≡ false = grind (arith, nat_tests, x) in
+    let one : nat_lt b.done.from a.done.from ≡ false = grind (arith, nat_tests, x) in
+    let two : (b.done.from == a.done.from) ≡ false = grind (arith, nat_tests, x) in
     rw (one, two) refl
 not_before a b (inr x) = by x.1
   where
-    one : nat_lt b.from a.from ≡ false
+    one : nat_lt b.done.from a.done.from ≡ false
     one = let e = x.0 in grind (arith, nat_tests, e)
 
-    same : (b.from == a.from) ≡ true
+    same : (b.done.from == a.done.from) ≡ true
     same = let e = x.0 in grind (arith, nat_tests, e)
 
-    by : (a.to < b.to) ⊎ ((a.to ≡ b.to) × (a.port ≤ b.port)) → stands_before (seen b) (seen a) ≡ false
+    by : (a.to < b.to) ⊎ ((a.to ≡ b.to) × (a.done.port ≤ b.done.port)) → stands_before (seen b) (seen a) ≡ false
     by (inl p) =
         let three : nat_lt b.to a.to ≡ false = grind (arith, nat_tests, p) in
         let four : (b.to == a.to) ≡ false = grind (arith, nat_tests, p) in
@@ -115,12 +115,12 @@ not_before a b (inr x) = by x.1
     by (inr p) =
         let three : nat_lt b.to a.to ≡ false = (let e = p.0 in grind (arith, nat_tests, e)) in
         let four : (b.to == a.to) ≡ true = (let e = p.0 in grind (arith, nat_tests, e)) in
-        let five : nat_lt b.port a.port ≡ false = (let e = p.1 in grind (arith, nat_tests, e)) in
+        let five : nat_lt b.done.port a.done.port ≡ false = (let e = p.1 in grind (arith, nat_tests, e)) in
         rw (one, same, three, four, five) refl
 
 -- the order of the keys
 abbrev pub key_of : Session → ℕ × ℕ × ℕ
-key_of x = (x.from, x.to, x.port)
+key_of x = (x.done.from, x.to, x.done.port)
 
 abbrev pub key_cmp : ℕ × ℕ × ℕ → ℕ × ℕ × ℕ → Ordering
 key_cmp x y = ordering_then (ordering_then (nat_cmp x.0 y.0) (nat_cmp x.1 y.1)) (nat_cmp x.2 y.2)
@@ -132,21 +132,21 @@ sorted_key {g = g} {f = f} xs up h = up key_of (always_returns_same g (λ a r. r
 
 -- a session whose key isn't less than another's doesn't stand before it
 pub sorted_next : (a b : Session) → is_lt (key_cmp (key_of b) (key_of a)) ≡ false → Upto a b
-sorted_next a b h = by_from (nat_lt b.from a.from) refl (b.from == a.from) refl
+sorted_next a b h = by_from (nat_lt b.done.from a.done.from) refl (b.done.from == a.done.from) refl
   where
-    by_port : b.from ≡ a.from → b.to ≡ a.to → (p : Bool) → nat_lt b.port a.port ≡ p → is_lt (nat_cmp b.port a.port) ≡ false → Upto a b
+    by_port : b.done.from ≡ a.done.from → b.to ≡ a.to → (p : Bool) → nat_lt b.done.port a.done.port ≡ p → is_lt (nat_cmp b.done.port a.done.port) ≡ false → Upto a b
     by_port same to true is k = absurd (let k' = rw is at k in false≢true (sym k'))
-    by_port same to false is k = inr (sym same, inr (sym to, (let e : a.port ≤ b.port = grind (arith, nat_tests, is) in e)))
+    by_port same to false is k = inr (sym same, inr (sym to, (let e : a.done.port ≤ b.done.port = grind (arith, nat_tests, is) in e)))
 
-    by_to : b.from ≡ a.from → is_lt (ordering_then (nat_cmp b.to a.to) (nat_cmp b.port a.port)) ≡ false → (p : Bool) → nat_lt b.to a.to ≡ p → (q : Bool) → (b.to == a.to) ≡ q → Upto a b
+    by_to : b.done.from ≡ a.done.from → is_lt (ordering_then (nat_cmp b.to a.to) (nat_cmp b.done.port a.done.port)) ≡ false → (p : Bool) → nat_lt b.to a.to ≡ p → (q : Bool) → (b.to == a.to) ≡ q → Upto a b
     by_to same k true is q is' = absurd (let k' = rw is at k in false≢true (sym k'))
-    by_to same k false is true is' = by_port same (grind (arith, nat_tests, is')) (nat_lt b.port a.port) refl (let k' = rw (is, is') at k in k')
+    by_to same k false is true is' = by_port same (grind (arith, nat_tests, is')) (nat_lt b.done.port a.done.port) refl (let k' = rw (is, is') at k in k')
     by_to same k false is false is' = inr (sym same, inl (let e : a.to < b.to = grind (arith, nat_tests, is, is') in e))
 
-    by_from : (p : Bool) → nat_lt b.from a.from ≡ p → (q : Bool) → (b.from == a.from) ≡ q → Upto a b
+    by_from : (p : Bool) → nat_lt b.done.from a.done.from ≡ p → (q : Bool) → (b.done.from == a.done.from) ≡ q → Upto a b
     by_from true is q is' = absurd (let k' = rw is at h in false≢true (sym k'))
     by_from false is true is' = by_to (grind (arith, nat_tests, is')) (let k' = rw (is, is') at h in k') (nat_lt b.to a.to) refl (b.to == a.to) refl
-    by_from false is false is' = inl (let e : a.from < b.from = grind (arith, nat_tests, is, is') in e)
+    by_from false is false is' = inl (let e : a.done.from < b.done.from = grind (arith, nat_tests, is, is') in e)
 
 adjacent : (xs : List Session) → ((k : ℕ) (d : Session) → k + 1 < length xs → Upto (slice_index_or xs k d) (slice_index_or xs (k + 1) d)) → (gap i : ℕ) (d : Session) → i + suc gap < length xs
     → Upto (slice_index_or xs i d) (slice_index_or xs (i + suc gap) d)

@@ -10,7 +10,7 @@ use Rattle.scenario_run.specs.Parts.{ReportPart}
 
 -- a session in the form that the laws of a run have
 abbrev pub seen : Session → HostileSession
-seen x = record { from = x.from; to = x.to; port = x.port; outcome = x.outcome; got = x.got }
+seen x = session_of x.to x.done
 
 -- of some sessions of a domain, those whose caller is hostile
 abbrev pub sessions_with : Scenario → ℕ → List ServedDone → List HostileSession

@@ -8,8 +8,7 @@ ghost use Rattle.scenario_run.specs.Sessions.{HaveServed, seen, sessions_from, s
 use crate::answers::TaskReport;
 use crate::lines::{mixed_outcome, name_of};
 use crate::tasks::is_scenario;
-use qrexec_frame::Bytes;
-use run_laws::{MixedOutcome, ServedLine};
+use run_laws::ServedLine;
 use run_pages::is_hostile;
 use scenario_file::Scenario;
 use std::alloc::{AllocError, Global};
@@ -19,11 +18,10 @@ use vchan_io::Memory;
 /// A session in which an honest domain served a hostile one.
 #[derive(Drop)]
 pub(crate) struct Session {
-    pub(crate) from: u32,
+    /// The domain that served.
     pub(crate) to: u32,
-    pub(crate) port: u32,
-    pub(crate) outcome: MixedOutcome,
-    pub(crate) got: Bytes,
+    /// What it reports.
+    pub(crate) done: ServedDone,
 }
 
 /// Makes the lines of all sessions with hostile callers that the tasks report, in order of the caller's
@@ -91,19 +89,7 @@ fn push_session(
     if !is_hostile(scenario, done.from) {
         return Ok(());
     }
-    let ServedDone {
-        from,
-        port,
-        outcome,
-        got,
-    } = done;
-    sessions.push(Session {
-        from,
-        to: number,
-        port,
-        outcome: mixed_outcome(outcome),
-        got,
-    })?;
+    sessions.push(Session { to: number, done })?;
     Ok(())
 }
 
@@ -112,7 +98,7 @@ fn sort(sessions: &mut Vec<Session>) -> Result<(), AllocError>
     ensures same { OnOk result (IsPermutation sessions.old.items sessions.new.items) }
     ensures sorted { OnOk result (AllPairs (λ a b. stands_before (seen b) (seen a) ≡ false) sessions.new.items) }
 {
-    sessions.sort_by_key(|session| (session.from, session.to, session.port))
+    sessions.sort_by_key(|session| (session.done.from, session.to, session.done.port))
 }
 
 // The lines of sessions, in order.
@@ -133,11 +119,12 @@ fn lines_of(
 fn line_of(alloc: Global, scenario: &Scenario, session: Session) -> Result<ServedLine, Memory>
     ensures { IfOk result (λ line. line ≡ session_line scenario.now (seen session)) }
 {
+    let Session { to, done } = session;
     Ok(ServedLine {
-        from: name_of(alloc, scenario, session.from)?,
-        to: name_of(alloc, scenario, session.to)?,
-        port: session.port,
-        outcome: session.outcome,
-        got: session.got,
+        from: name_of(alloc, scenario, done.from)?,
+        to: name_of(alloc, scenario, to)?,
+        port: done.port,
+        outcome: mixed_outcome(done.outcome),
+        got: done.got,
     })
 }
