@@ -63,7 +63,7 @@ fn fitting_line(rt: &(impl Abort + AllocGlobal), message: &Message) -> Result<Ve
     message_line(rt.alloc(), message)
 }
 
-// The lines of messages that own memory are rows of tests/cli: to drop such a message is dear to prove.
+// The lines of messages that own memory are rows of tests/cli: a function that owns one is dear to prove.
 #[test]
 fn prints_texts_without_nul(rt: HostRuntime) -> Result<(), Fail> {
     let alloc = rt.alloc();

@@ -50,8 +50,8 @@ fn say(broker: &mut ControlPort, message: &Message) -> Result<bool, Fail>
     Ok(true)
 }
 
-/// Sends the message of a command, as `say` does. The message is dropped here alone, since each place that
-/// drops one is dear to prove.
+/// Sends the message of a command, as `say` does. Only this function owns the message: each one that does is
+/// dear to prove.
 fn say_command(
     alloc: Global,
     broker: &mut ControlPort,

@@ -83,8 +83,7 @@ fn trigger(alloc: Global) -> Result<Message, Fail>
     })
 }
 
-/// Requests a call, as `say` does. The message is dropped here alone, since each place that drops one is dear
-/// to prove.
+/// Requests a call, as `say` does. Only this function owns the message: each one that does is dear to prove.
 fn ask(alloc: Global, caller: &mut ControlPort) -> Result<bool, Fail>
     requires open { IsOpen caller.old.end }
     requires talker { caller.old.talker ≡ Agent }

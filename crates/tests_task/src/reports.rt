@@ -80,7 +80,8 @@ fn mixed(alloc: Global) -> Result<CallResult, Fail> {
     })
 }
 
-// Appends the line of a call. Few places drop what owns memory in these functions, since each is dear to prove.
+// Appends the line of a call. Few of these functions own what owns memory, since each that does is dear to
+// prove.
 fn push_call(
     alloc: Global,
     calls: &mut Vec<CallLine>,
