@@ -14,5 +14,6 @@ mod OrderLaws
 mod EarlyLaws
 mod StandstillLaws
 mod CountingLaws
+mod BoundLaws
 mod KeepingLaws
 mod StretchLaws

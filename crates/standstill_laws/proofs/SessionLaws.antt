@@ -31,7 +31,7 @@ use Rattle.standstill_laws.specs.Session.{SessionsGoOn}
 
 -- ---- a greeting that was got is read
 
-good_hello : (own : ℕ) → own < 2 ^ 32 → IsGood Data (Hello own)
+pub good_hello : (own : ℕ) → own < 2 ^ 32 → IsGood Data (Hello own)
 good_hello own small = ((tt, small), refl)
 
 -- what stands at the front is the first message that is read
@@ -59,7 +59,7 @@ stdin_good p reads least = by_stream p.stream reads
     by_stream Out reads = cc
     by_stream Errors reads = cc
 
-input_good : (limit : ℕ) → limit ≤ 65536 → (pieces : List Piece) → ArePieces is_input limit pieces → Each (IsGood Data) (map message_of (pieces ++ end_of In ∷ []))
+pub input_good : (limit : ℕ) → limit ≤ 65536 → (pieces : List Piece) → ArePieces is_input limit pieces → Each (IsGood Data) (map message_of (pieces ++ end_of In ∷ []))
 input_good limit least [] each = (stdin_good (end_of In) refl (omega arith), tt)
 input_good limit least (p ∷ pieces) each = (stdin_good p each.0.0 (omega (arith, each.0.2, least)), input_good limit least pieces each.1)
 
@@ -100,7 +100,7 @@ sees_end own limit pieces version least each got is =
 
 -- ---- the law
 
-most_fits : (chunk version : ℕ) → min chunk (most version) ≤ 65536
+pub most_fits : (chunk version : ℕ) → min chunk (most version) ≤ 65536
 most_fits chunk version = by_test (nat_lt version 3)
   where
     by_test : (b : Bool) → min chunk (if b then 4096 else 65536) ≤ 65536

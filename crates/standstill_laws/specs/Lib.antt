@@ -11,5 +11,6 @@ pub mod Sessions
 pub mod Order
 pub mod Standstill
 pub mod Counting
+pub mod Bounds
 pub mod Keeping
 pub mod Stretch

@@ -13,6 +13,7 @@ ghost use Rattle.standstill_laws.specs.Settling.{NoCallIsLive, AllAreSettled};
 ghost use Rattle.standstill_laws.specs.Standstill.{RunsDoNotStandStill, NoAgentIsLeft};
 ghost use Rattle.standstill_laws.specs.Keeping.{FindingsStay};
 ghost use Rattle.standstill_laws.specs.Counting.{TurnsAreBounded};
+ghost use Rattle.standstill_laws.specs.Bounds.{SessionsSendLittle, SessionWorkIsBounded};
 ghost use Rattle.standstill_laws.specs.Stretch.{ControlPagesRest, DataPagesRest, StretchesRest};
 ghost use Rattle.standstill_laws.specs.Order.{EndsComeInOrder, NoneIsEarly, AgentsHearInOrder};
 
@@ -178,6 +179,18 @@ pub fn control_pages_rest()
 /// than what the tasks have done in the end.
 pub fn turns_are_bounded()
     ensures { TurnsAreBounded }
+{}
+
+/// A side of a session sends no more than its input, or what its service owes, makes up in messages of one byte each,
+/// with a greeting, the ends of its streams and an exit code, whatever its peer sends.
+pub fn sessions_send_little()
+    ensures { SessionsSendLittle }
+{}
+
+/// So on a page between honest ends the two sides of an open session of a built-in service have done no more than a
+/// number that the length of the call's input gives.
+pub fn session_work_is_bounded()
+    ensures { SessionWorkIsBounded }
 {}
 
 /// Pages that stand still exist, whatever their orders: one that was just opened, by what a drain of it loads.

@@ -1,0 +1,40 @@
+-- How much a session sends at most, and how much both its sides do.
+-- Source: this project's own.
+use Rattle.std.specs.Prelude.{◌≡◌, ℕ, ◌+◌, ◌*◌, ◌≤◌, List, length}
+use Rattle.vchan_protocol.specs.History.Core.{Core}
+use Rattle.vchan_protocol.specs.Honest.Lawful.{Lawful}
+use Rattle.service_gate.specs.Triple.{Triple}
+use Rattle.service_gate.specs.Owing.{builtin_owes}
+use Rattle.service_gate.specs.declared.builtin.Builtin.{Builtin}
+use Rattle.qrexec_data.specs.Seeing.{serving_sees}
+use Rattle.qrexec_data.specs.Sending.{CallerMaySend, ServingMaySend}
+use Rattle.qrexec_data.specs.Laws.{IsVersion}
+use Rattle.channel_session.specs.Calling.{CallerAt, IsCalling}
+use Rattle.channel_session.specs.Answering.{ServingAt, IsAnswering}
+use Rattle.data_slots.specs.Sessions.{CallsWith, ServesWith}
+use Rattle.domain_task.specs.Working.{work_in}
+
+-- A caller with this input sends at most a greeting of 12 bytes, a message for each byte of the input, with a header of 8, and one that ends the input.
+abbrev pub most_requested : List ℕ → ℕ
+most_requested input = 20 + 9 * length input
+
+-- A side whose service owes this sends at most a greeting, a message for each byte of its outputs, one that ends each of them, and an exit code in 12 bytes.
+abbrev pub most_answered : Triple → ℕ
+most_answered t = 40 + 9 * (length t.stdout + length t.stderr)
+
+-- whatever its peer sends
+abbrev pub SessionsSendLittle : Type 0
+SessionsSendLittle =
+    ((own chunk : ℕ) (input got sent : List ℕ) → CallerMaySend own chunk input got sent → length sent ≤ most_requested input)
+    × ((own chunk : ℕ) (owed : List ℕ → Triple) (got sent : List ℕ) → ServingMaySend own chunk owed got sent → length sent ≤ most_answered (owed (serving_sees got).input))
+
+-- A session of a built-in service between honest ends, whose caller has this input: the side that serves sees no more input than that, a service owes at most 21 bytes more than its input,
+-- each side gets at most what the other sent, and each takes two steps before its end.
+abbrev pub most_work : List ℕ → ℕ
+most_work input = 502 + 36 * length input
+
+-- so much have both sides done at most while they are open
+abbrev pub SessionWorkIsBounded : Type 0
+SessionWorkIsBounded = (core : Core) (caller : CallerAt) (serving : ServingAt) (service : Builtin) → Lawful core → IsVersion caller.caller.replies.own → IsCalling caller.caller caller.end
+    → IsAnswering (builtin_owes service) serving.serving serving.end → caller.end.side ≡ core.server → serving.end.side ≡ core.client
+    → work_in (CallsWith caller) + work_in (ServesWith serving) ≤ most_work caller.caller.requests.input
