@@ -1,12 +1,13 @@
 -- How much a session sends at most, and how much both its sides do.
 use Rattle.std.proofs.Common.{◌≡◌, ℕ, ◌+◌, ◌*◌, ◌<◌, ◌≤◌, zero, suc, Bool, true, false, List, [], ◌∷◌, ◌++◌, length, length-append, append-nil, map, take, if◌then◌else◌, Option, Some, None, refl, sym, ap, ◌∙◌, subst, arith}
-use Rattle.std.specs.Prelude.{◌%◌, ◌^◌, decimal, min, filter, nat_lt, not, MatchBool, MatchOption}
+use Rattle.std.specs.Prelude.{◌%◌, ◌^◌, decimal, min, filter, filter_map, ◌==◌, IsSomeAnd, nat_lt, not, MatchBool, MatchOption}
 use Rattle.std.specs.Char.{to_ascii_uppercase}
 use Rattle.std.proofs.Common.{lit<}
 use Rattle.std.proofs.lemmas.Fmt.{length-decimal-le}
 use Rattle.std.proofs.lemmas.List.{length-map, length-take}
+use Rattle.std.proofs.lemmas.List.Sorted.{length_permutation}
 use Rattle.std.proofs.lemmas.Bool.Decides.{nat_tests}
-use Rattle.std.specs.List.{flat_map, AllByRecursion as Each}
+use Rattle.std.specs.List.{flat_map, cons_option, AllByRecursion as Each}
 use Rattle.list_laws.specs.Lists.{IsPrefixOf}
 use Rattle.list_laws.proofs.Prefixes.{prefix_length, prefix_trans}
 use Rattle.vchan_protocol.specs.declared.side.Side.{Side}
@@ -21,7 +22,8 @@ use Rattle.qrexec_frame.specs.Streams.{Placed, Ending, Begins as BeginsWith}
 use Rattle.qrexec_frame.proofs.StreamLaws.{begins}
 use Rattle.qrexec_frame.proofs.GrammarLaws.{is_prefix_code}
 use Rattle.qrexec_frame.proofs.WrittenLaws.{is_read_again}
-use Rattle.qrexec_frame.specs.Messages.{written}
+use Rattle.qrexec_frame.specs.Messages.{written, IsSpellable}
+use Rattle.qrexec_frame.specs.Names.{cleaned_service}
 use Rattle.service_gate.specs.Triple.{Triple}
 use Rattle.service_gate.specs.ServiceResult.{count_line, every_other, splits}
 use Rattle.service_gate.specs.Owing.{state_owes, builtin_owes}
@@ -34,8 +36,23 @@ use Rattle.qrexec_data.specs.Sending.{agreed, most, Begins, IsCallerStream, IsSe
 use Rattle.qrexec_data.proofs.MaySendLaws.{caller_may_send, serving_may_send, flat_more}
 use Rattle.qrexec_data.proofs.PieceLaws.{the_messages}
 use Rattle.qrexec_data.specs.Laws.{IsVersion}
+use Rattle.call_broker.specs.declared.decision.Entry.{Entry}
+use Rattle.call_broker.specs.declared.decision.Decision.{Decision}
+use Rattle.call_broker.specs.declared.decision.Decision.TheVariants.{Accepted, Refused as RefusedFor, Ended, PassedOver}
+use Rattle.call_broker.specs.declared.event.Event.{Event}
+use Rattle.call_broker.specs.declared.event.Event.TheVariants as event
+use Rattle.call_broker.specs.Domains.{Domains, name_of}
+use Rattle.call_queue.specs.Queue.{asked_by}
+use Rattle.agent_control.specs.declared.control.AgentControl.{AgentControl}
+use Rattle.task_duties.specs.Hearing.{to_broker}
+use Rattle.task_duties.specs.Words.{exec_line}
+use Rattle.task_duties.specs.Broker.Outbox.{only_if, puts, outbox}
+use Rattle.task_duties.specs.Agent.Saying.{asking, asking_of}
+use Rattle.agent_task.specs.Ends.{session_told, session_asked, session_of_answer}
+use Rattle.agent_task.specs.State.{AgentState, TellsSoFar, IsChannelOf, answers_so_far}
+use Rattle.agent_task.specs.Telling.{heard_on, owed_on}
 use Rattle.standstill_laws.proofs.SessionLaws.{good_hello, input_good, most_fits}
-use Rattle.standstill_laws.specs.Bounds.{most_requested, most_answered, SessionsSendLittle, SessionWorkIsBounded}
+use Rattle.standstill_laws.specs.Bounds.{most_requested, most_answered, SessionsSendLittle, SessionWorkIsBounded, AgentsSayFew, OutboxesHoldFew}
 
 -- ---- messages
 
@@ -333,3 +350,83 @@ session_work_lem core caller serving service lawful version calling answering ca
     let serving_got = ap (λ (side : Side). length side.got) serving_is in
     let serving_sent = ap (λ (side : Side). length side.sent) serving_is in
     omega (arith, asked, answered, input, outputs, came_left, came_right, caller_got, caller_sent, serving_got, serving_sent)
+
+-- ---- control pages
+
+filtered_few : {X Y : Type 0} (f : X → Option Y) (xs : List X) → length (filter_map f xs) ≤ length xs
+filtered_few f [] = omega arith
+filtered_few {X} {Y} f (x ∷ xs) = by (f x) (filtered_few f xs)
+  where
+    by : (found : Option Y) → length (filter_map f xs) ≤ length xs → length (cons_option found (filter_map f xs)) ≤ suc (length xs)
+    by None few = omega (arith, few)
+    by (Some y) few = omega (arith, few)
+
+-- what may be said to the broker is a trigger or an end
+said_few : (said : List Message) → Each (λ m. to_broker m ≡ true) said → length said ≤ length (filter_map asking said) + length (filter_map session_told said)
+said_few [] each = omega arith
+said_few (m ∷ said) each = by m each.0 (said_few said each.1)
+  where
+    by : (n : Message) → to_broker n ≡ true → length said ≤ length (filter_map asking said) + length (filter_map session_told said)
+        → suc (length said) ≤ length (cons_option (asking n) (filter_map asking said)) + length (cons_option (session_told n) (filter_map session_told said))
+    by (Trigger3 target ident service) may few = omega (arith, few)
+    by (Trigger target ident service) may few = omega (arith, few)
+    by (Terminated domain port) may few = omega (arith, few)
+    by (Hello version) may few = cc
+    by (Stdin bytes) may few = cc
+    by (Stdout bytes) may few = cc
+    by (Stderr bytes) may few = cc
+    by (ExitCode code) may few = cc
+    by (Exec domain port line) may few = cc
+    by (JustExec domain port line) may few = cc
+    by (Connect domain port ident) may few = cc
+    by (Refused ident) may few = cc
+
+only_may : (said : List Message) → Each (λ m. (to_broker m ≡ true) × IsSpellable m) said → Each (λ m. to_broker m ≡ true) said
+only_may [] each = tt
+only_may (m ∷ said) each = (each.0.0, only_may said each.1)
+
+pub agents_say_few_lem : AgentsSayFew
+agents_say_few_lem task tells = by task.channel tells.acts.channel
+  where
+    said : List Message
+    said = tells.once.said
+
+    heard : List Message
+    heard = (heard_on task.plan task.control).messages
+
+    by : (channel : Option AgentControl) → IsSomeAnd channel (IsChannelOf task said) → length said ≤ 2 * length task.plan.calls + length heard
+    by (Some c) is =
+        let parts = said_few said (only_may said tells.once.says.each) in
+        let calls = ap (λ xs. length xs) is.calls in
+        let asked = ap (λ xs. length xs) is.answered in
+        let mapped = length-map (asked_by c.queue) (λ a. a.call) in
+        let triggers = ap (λ xs. length xs) is.asks in
+        let taken = length-take c.queue.next (map asking_of task.plan.calls) in
+        let all = length-map task.plan.calls asking_of in
+        let told = length_permutation _ _ tells.once.told.1 in
+        let parted = length-append (filter_map session_told said) tells.once.told.0 in
+        let own = filtered_few (λ a. session_of_answer a.answer) (answers_so_far task).asked in
+        let served = filtered_few session_asked heard in
+        let owed = length-append (filter_map (λ a. session_of_answer a.answer) (answers_so_far task).asked) (filter_map session_asked heard) in
+        omega (arith, parts, calls, asked, mapped, triggers, taken, all, told, parted, own, served, owed)
+    by None is = absurd is
+
+pub outboxes_hold_few_lem : OutboxesHoldFew
+outboxes_hold_few_lem hub [] d = omega arith
+outboxes_hold_few_lem hub (x ∷ journal) d =
+    let one = put_few x.event x.decision in
+    let both = length-append (puts hub d x.event x.decision) (outbox hub journal d) in
+    let rest = outboxes_hold_few_lem hub journal d in
+    omega (arith, one, both, rest)
+  where
+    if_few : (b : Bool) (m : Message) → length (only_if b m) ≤ 1
+    if_few true m = omega arith
+    if_few false m = omega arith
+
+    put_few : (e : Event) (decision : Decision) → length (puts hub d e decision) ≤ 2
+    put_few (event.Trigger from target service ident) (Accepted to port) = omega (arith, length-append (only_if (d == from) (Connect to port ident)) (only_if (d == to) (Exec from port (exec_line (cleaned_service service) (name_of hub from)))), if_few (d == from) (Connect to port ident), if_few (d == to) (Exec from port (exec_line (cleaned_service service) (name_of hub from))))
+    put_few (event.Trigger from target service ident) (RefusedFor cause) = omega (arith, if_few (d == from) (Refused ident))
+    put_few (event.Trigger from target service ident) (Ended caller server port) = omega arith
+    put_few (event.Trigger from target service ident) PassedOver = omega arith
+    put_few (event.Terminated from other port) decision = omega arith
+    put_few (event.Dropped domain) decision = omega arith

@@ -12,6 +12,11 @@ use Rattle.qrexec_data.specs.Laws.{IsVersion}
 use Rattle.channel_session.specs.Calling.{CallerAt, IsCalling}
 use Rattle.channel_session.specs.Answering.{ServingAt, IsAnswering}
 use Rattle.data_slots.specs.Sessions.{CallsWith, ServesWith}
+use Rattle.call_broker.specs.declared.decision.Entry.{Entry}
+use Rattle.call_broker.specs.Domains.{Domains}
+use Rattle.task_duties.specs.Broker.Outbox.{outbox}
+use Rattle.agent_task.specs.State.{AgentState, TellsSoFar}
+use Rattle.agent_task.specs.Telling.{heard_on}
 use Rattle.domain_task.specs.Working.{work_in}
 
 -- A caller with this input sends at most a greeting of 12 bytes, a message for each byte of the input, with a header of 8, and one that ends the input.
@@ -38,3 +43,13 @@ abbrev pub SessionWorkIsBounded : Type 0
 SessionWorkIsBounded = (core : Core) (caller : CallerAt) (serving : ServingAt) (service : Builtin) → Lawful core → IsVersion caller.caller.replies.own → IsCalling caller.caller caller.end
     → IsAnswering (builtin_owes service) serving.serving serving.end → caller.end.side ≡ core.server → serving.end.side ≡ core.client
     → work_in (CallsWith caller) + work_in (ServesWith serving) ≤ most_work caller.caller.requests.input
+
+-- ---- control pages
+
+-- An agent has said at most a trigger and an end for each of its calls, and an end for each message that it heard.
+abbrev pub AgentsSayFew : Type 0
+AgentsSayFew = (task : AgentState) → (tells : TellsSoFar task) → length tells.once.said ≤ 2 * length task.plan.calls + length (heard_on task.plan task.control).messages
+
+-- A journal puts at most two messages for each of its entries into the outbox of a domain.
+abbrev pub OutboxesHoldFew : Type 0
+OutboxesHoldFew = (hub : Domains) (journal : List Entry) (d : ℕ) → length (outbox hub journal d) ≤ 2 * length journal

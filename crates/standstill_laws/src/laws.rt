@@ -13,7 +13,7 @@ ghost use Rattle.standstill_laws.specs.Settling.{NoCallIsLive, AllAreSettled};
 ghost use Rattle.standstill_laws.specs.Standstill.{RunsDoNotStandStill, NoAgentIsLeft};
 ghost use Rattle.standstill_laws.specs.Keeping.{FindingsStay};
 ghost use Rattle.standstill_laws.specs.Counting.{TurnsAreBounded};
-ghost use Rattle.standstill_laws.specs.Bounds.{SessionsSendLittle, SessionWorkIsBounded};
+ghost use Rattle.standstill_laws.specs.Bounds.{AgentsSayFew, OutboxesHoldFew, SessionsSendLittle, SessionWorkIsBounded};
 ghost use Rattle.standstill_laws.specs.Stretch.{ControlPagesRest, DataPagesRest, StretchesRest};
 ghost use Rattle.standstill_laws.specs.Order.{EndsComeInOrder, NoneIsEarly, AgentsHearInOrder};
 
@@ -191,6 +191,16 @@ pub fn sessions_send_little()
 /// number that the length of the call's input gives.
 pub fn session_work_is_bounded()
     ensures { SessionWorkIsBounded }
+{}
+
+/// An agent has said at most a trigger and an end for each of its calls, and an end for each message that it heard.
+pub fn agents_say_few()
+    ensures { AgentsSayFew }
+{}
+
+/// A journal puts at most two messages for each of its entries into the outbox of a domain.
+pub fn outboxes_hold_few()
+    ensures { OutboxesHoldFew }
 {}
 
 /// Pages that stand still exist, whatever their orders: one that was just opened, by what a drain of it loads.

@@ -1,0 +1,5 @@
+use Rattle.standstill_laws.proofs.laws.agents_say_few.Goals as goal
+use Rattle.standstill_laws.proofs.BoundLaws.{agents_say_few_lem}
+
+pub returns : goal.returns
+returns c = agents_say_few_lem
