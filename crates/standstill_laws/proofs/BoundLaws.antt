@@ -1,14 +1,15 @@
--- How much a session sends at most, and how much both its sides do.
+-- How much a session sends at most, how much both its sides do, and how many messages an agent says and an outbox holds.
 use Rattle.std.proofs.Common.{◌≡◌, ℕ, ◌+◌, ◌*◌, ◌<◌, ◌≤◌, zero, suc, Bool, true, false, List, [], ◌∷◌, ◌++◌, length, length-append, append-nil, map, take, if◌then◌else◌, Option, Some, None, refl, sym, ap, ◌∙◌, subst, arith}
 use Rattle.std.specs.Prelude.{◌%◌, ◌^◌, decimal, min, filter, filter_map, ◌==◌, IsSomeAnd, nat_lt, not, MatchBool, MatchOption}
 use Rattle.std.specs.Char.{to_ascii_uppercase}
 use Rattle.std.proofs.Common.{lit<}
 use Rattle.std.proofs.lemmas.Fmt.{length-decimal-le}
-use Rattle.std.proofs.lemmas.List.{length-map, length-take}
+use Rattle.std.proofs.lemmas.List.{length-map, length-take, map-append}
 use Rattle.std.proofs.lemmas.List.Sorted.{length_permutation}
 use Rattle.std.proofs.lemmas.Bool.Decides.{nat_tests}
 use Rattle.std.specs.List.{flat_map, cons_option, AllByRecursion as Each}
 use Rattle.list_laws.specs.Lists.{IsPrefixOf}
+use Rattle.list_laws.proofs.Each.{each_weaker}
 use Rattle.list_laws.proofs.Prefixes.{prefix_length, prefix_trans}
 use Rattle.vchan_protocol.specs.declared.side.Side.{Side}
 use Rattle.vchan_rule.specs.Seated.{view}
@@ -86,6 +87,11 @@ joined_len stream p pieces = by (is_stream p.stream stream)
     by true = length-append p.bytes (flat_map (λ q. q.bytes) rest)
     by false = omega arith
 
+of_input : (stream : Stream) (n : ℕ) → is_input stream ≡ true → (if is_stream stream In then n else 0) ≡ n
+of_input In n is = refl
+of_input Out n is = cc
+of_input Err n is = cc
+
 -- messages of a header and a piece each take nine times the pieces' bytes at most
 in_little : (limit : ℕ) (pieces : List Piece) → ArePieces is_input limit pieces → length (flat_map written (map message_of pieces)) ≤ 9 * length (joined In pieces)
 in_little limit [] each = omega arith
@@ -93,15 +99,10 @@ in_little limit (p ∷ pieces) each =
     let here = piece_len p in
     let both = length-append (written (message_of p)) (flat_map written (map message_of pieces)) in
     let bytes = joined_len In p pieces in
-    let own = one p.stream (length p.bytes) each.0.0 in
+    let own = of_input p.stream (length p.bytes) each.0.0 in
     let rest = in_little limit pieces each.1 in
     let some = each.0.1 in
     omega (arith, here, both, bytes, own, rest, some)
-  where
-    one : (stream : Stream) (n : ℕ) → is_input stream ≡ true → (if is_stream stream In then n else 0) ≡ n
-    one In n is = refl
-    one Out n is = cc
-    one Err n is = cc
 
 out_little : (limit : ℕ) (pieces : List Piece) → ArePieces is_output limit pieces → length (flat_map written (map message_of pieces)) ≤ 9 * (length (joined Out pieces) + length (joined Err pieces))
 out_little limit [] each = omega arith
@@ -123,12 +124,10 @@ out_little limit (p ∷ pieces) each =
 -- ---- streams
 
 tail_len : (pieces : List Piece) (tail : List Piece) → length (flat_map written (map message_of (pieces ++ tail))) ≡ length (flat_map written (map message_of pieces)) + length (flat_map written (map message_of tail))
-tail_len [] tail = omega arith
-tail_len (p ∷ pieces) tail =
-    let all = length-append (written (message_of p)) (flat_map written (map message_of (pieces ++ tail))) in
-    let front = length-append (written (message_of p)) (flat_map written (map message_of pieces)) in
-    let rest = tail_len pieces tail in
-    omega (arith, all, front, rest)
+tail_len pieces tail =
+    ap (λ (ms : List Message). length (flat_map written ms)) (map-append message_of pieces tail)
+    ∙ ap (λ (bytes : List ℕ). length bytes) (flat_more (map message_of pieces) (map message_of tail))
+    ∙ length-append (flat_map written (map message_of pieces)) (flat_map written (map message_of tail))
 
 caller_stream : (own limit : ℕ) (input : List ℕ) (stream : List Message) → IsCallerStream own limit input stream → length (flat_map written stream) ≤ most_requested input
 caller_stream own limit input stream h =
@@ -256,7 +255,7 @@ input_len limit [] each = refl
 input_len limit (p ∷ pieces) each =
     let here = one p.stream p.bytes each.0.0 in
     let front = joined_len In p pieces in
-    let own = mine p.stream (length p.bytes) each.0.0 in
+    let own = of_input p.stream (length p.bytes) each.0.0 in
     let rest = input_len limit pieces each.1 in
     omega (arith, here, front, own, rest)
   where
@@ -264,11 +263,6 @@ input_len limit (p ∷ pieces) each =
     one In bytes is = refl
     one Out bytes is = cc
     one Err bytes is = cc
-
-    mine : (stream : Stream) (n : ℕ) → is_input stream ≡ true → (if is_stream stream In then n else 0) ≡ n
-    mine In n is = refl
-    mine Out n is = cc
-    mine Err n is = cc
 
 -- of a stream that begins with a greeting it sees no more than the input in the stream
 stream_little : (own : ℕ) (tail : List Message) (got : List ℕ) → IsVersion own → Each (IsGood Data) tail → IsPrefixOf got (flat_map written (Hello own ∷ tail)) → length (serving_sees got).input ≤ inputs_in tail
@@ -381,10 +375,6 @@ said_few (m ∷ said) each = by m each.0 (said_few said each.1)
     by (Connect domain port ident) may few = cc
     by (Refused ident) may few = cc
 
-only_may : (said : List Message) → Each (λ m. (to_broker m ≡ true) × IsSpellable m) said → Each (λ m. to_broker m ≡ true) said
-only_may [] each = tt
-only_may (m ∷ said) each = (each.0.0, only_may said each.1)
-
 pub agents_say_few_lem : AgentsSayFew
 agents_say_few_lem task tells = by task.channel tells.acts.channel
   where
@@ -396,7 +386,7 @@ agents_say_few_lem task tells = by task.channel tells.acts.channel
 
     by : (channel : Option AgentControl) → IsSomeAnd channel (IsChannelOf task said) → length said ≤ 2 * length task.plan.calls + length heard
     by (Some c) is =
-        let parts = said_few said (only_may said tells.once.says.each) in
+        let parts = said_few said (each_weaker (λ m. (to_broker m ≡ true) × IsSpellable m) (λ m. to_broker m ≡ true) (λ m may. may.0) said tells.once.says.each) in
         let calls = ap (λ xs. length xs) is.calls in
         let asked = ap (λ xs. length xs) is.answered in
         let mapped = length-map (asked_by c.queue) (λ a. a.call) in

@@ -1,4 +1,4 @@
--- How much a session sends at most, and how much both its sides do.
+-- How much a session sends at most, how much both its sides do, and how many messages an agent says and an outbox holds.
 -- Source: this project's own.
 use Rattle.std.specs.Prelude.{◌≡◌, ℕ, ◌+◌, ◌*◌, ◌≤◌, List, length}
 use Rattle.vchan_protocol.specs.History.Core.{Core}
