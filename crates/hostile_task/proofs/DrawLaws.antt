@@ -8,7 +8,8 @@ use Rattle.vchan_protocol.specs.Hostile.Turned.{MayPoke}
 use Rattle.task_duties.specs.declared.place.PagePlace.{PagePlace}
 use Rattle.task_duties.specs.declared.place.PagePlace.TheVariants.{Control, Payload}
 use Rattle.task_duties.specs.Places.{is_place}
-use Rattle.scenario_file.specs.Generator.{Drawn, drawn, next_number}
+use Rattle.scenario_file.specs.Generator.{Drawn, drawn}
+use Rattle.script_words.specs.Generator.{next_number}
 use Rattle.task_duties.specs.Hostile.Given.{HostilePlan}
 use Rattle.task_duties.specs.Hostile.Stores.{field_of, header_words, stored, drawn_on, scribbled}
 use Rattle.task_duties.proofs.Places.{same_self}

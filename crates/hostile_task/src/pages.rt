@@ -9,7 +9,8 @@ ghost use Rattle.task_duties.specs.Hostile.Stores.{field_of};
 use crate::domain::HostileDomain;
 use crate::page::TurnedPage;
 use ring_words::WordName;
-use scenario_file::{ActPage, next_number};
+use scenario_file::ActPage;
+use script_words::next_number;
 use task_duties::{DataEnd, PagePlace, RetiredEnd};
 use vchan_rule::End;
 

@@ -8,7 +8,8 @@ use Rattle.scenario_file.specs.declared.scenario.CallPlan.{CallPlan}
 use Rattle.scenario_file.specs.declared.line.LineCause.TheVariants.{NoDomain, SameDomain, NoService}
 use Rattle.scenario_file.specs.declared.line.LineResult.{LineResult}
 use Rattle.scenario_file.specs.declared.line.LineResult.TheVariants.{Done, Refused}
-use Rattle.scenario_file.specs.Generator.{after_call, call_from, fill, next_number}
+use Rattle.scenario_file.specs.Generator.{after_call, call_from, fill}
+use Rattle.script_words.specs.Generator.{next_number}
 use Rattle.scenario_file.specs.Lines.{lines, without_hostile}
 use Rattle.scenario_file.specs.Scenario.{Plan}
 

@@ -1,14 +1,11 @@
--- The generator of numbers, and the scenario that it makes.
--- Source: this project's own; the step is the linear congruence 75 x + 74 modulo 65,537.
+-- The scenario that the generator of numbers makes.
+-- Source: this project's own.
 use Rattle.std.specs.Prelude.{ℕ, ◌+◌, ◌*◌, ◌%◌, zero, suc, nat_lt, List, [], ◌∷◌, map, slice_get, unwrap_or, None, codes, if◌then◌else◌}
 use Rattle.std.specs.List.{range_with_len}
+use Rattle.script_words.specs.Generator.{next_number}
 use Rattle.scenario_file.specs.declared.scenario.Domain.{Domain}
 use Rattle.scenario_file.specs.declared.scenario.CallPlan.{CallPlan}
 use Rattle.scenario_file.specs.Scenario.{Written}
-
--- the number after this one
-abbrev pub next_number : ℕ → ℕ
-next_number x = (75 * x + 74) % 65537
 
 -- the three numbers of a store of scribbling: they choose the page, the word and the value
 pub record Drawn : Type 0 where

@@ -1,14 +1,15 @@
-//! The generator of numbers, and the scenario that it makes.
+//! The scenario that the generator of numbers makes.
 ghost use Rattle.std.specs.Prelude.{◌≡◌, ◌≤◌, ◌<◌, map, IfOk};
 ghost use Rattle.ring_words.specs.Rings.{number_of};
 ghost use Rattle.qrexec_frame.specs.Texts.{HasNoNul};
-ghost use Rattle.scenario_file.specs.Generator.{after_call, call_from, fill, generated, generated_call, generated_calls, generated_domain, generated_names, generated_services, next_number, other_place, text_at};
+ghost use Rattle.scenario_file.specs.Generator.{after_call, call_from, fill, generated, generated_call, generated_calls, generated_domain, generated_names, generated_services, other_place, text_at};
 ghost use Rattle.scenario_file.specs.Scenario.{written};
 
 use crate::names::text_of;
 use crate::scenario::{CallPlan, Domain, Scenario};
 use qrexec_frame::Bytes;
 use ring_words::{Orders, check_orders};
+use script_words::next_number;
 use std::alloc::Global;
 use vchan_io::Memory;
 
@@ -27,15 +28,6 @@ const SERVICES: [&[u8]; 6] = [
     b"split",
     b"exit+7",
 ];
-
-/// Returns the number after `x`: one step of the generator, 75 x + 74 modulo 65,537.
-pub fn next_number(x: u32) -> u32
-    requires { x ≤ 65536 }
-    ensures number { result ≡ next_number x }
-    ensures within { result ≤ 65536 }
-{
-    (75 * x + 74) % 65_537
-}
 
 /// Returns the scenario of a seed: four honest domains `d1` to `d4`, rings of the default orders,
 /// and this many calls. The generator begins at the seed, and each call takes four of its numbers:

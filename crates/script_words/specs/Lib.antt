@@ -3,6 +3,7 @@ pub mod WordsLeft
 pub mod Numbers
 pub mod ByteStrings
 pub mod Places
+pub mod Generator
 pub mod Text
 pub mod KeptLines
 pub mod LinesLeft

@@ -7,6 +7,7 @@
 
 mod byte_string;
 mod digits;
+mod generator;
 mod lines;
 mod number;
 mod place;
@@ -15,6 +16,7 @@ mod words;
 
 pub use byte_string::{ByteError, PushError, bytes_of, push_bytes_of};
 pub use lines::{LineReader, MOST_LINES, NextLine, TooManyLines};
+pub use generator::next_number;
 pub use number::{is_number, parse_number};
 pub use place::place_in;
 pub use words::{WordsOfLine, cut_at, first_line};

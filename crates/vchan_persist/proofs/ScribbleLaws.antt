@@ -9,7 +9,7 @@ use Rattle.vchan_protocol.specs.Hostile.Turned.{strays, turns}
 use Rattle.vchan_protocol.specs.Table.Ends.{own_gone, peer_pending}
 use Rattle.hostile_seat.specs.Hostile.{strays_along}
 use Rattle.hostile_seat.proofs.ByteLaws.{along_role, along_trail, along_turned}
-use Rattle.scenario_file.specs.Generator.{next_number}
+use Rattle.script_words.specs.Generator.{next_number}
 use Rattle.task_duties.specs.Hostile.Stores.{field_of}
 use Rattle.task_duties.specs.Hostile.Trail.{retiring}
 use Rattle.vchan_persist.specs.Epochs.{scribbled}

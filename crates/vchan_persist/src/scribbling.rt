@@ -6,7 +6,7 @@ ghost use Rattle.vchan_persist.specs.Epochs.{scribbled};
 use crate::task::{EpochTask, SideDone};
 use hostile_seat::{Hostile, turn};
 use hostile_task::field_of;
-use scenario_file::next_number;
+use script_words::next_number;
 use std::marker::Model;
 use task_pool::Turn;
 use vchan_rule::End;
