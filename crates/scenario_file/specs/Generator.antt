@@ -1,6 +1,6 @@
 -- The scenario that the generator of numbers makes.
 -- Source: this project's own.
-use Rattle.std.specs.Prelude.{ℕ, ◌+◌, ◌*◌, ◌%◌, zero, suc, nat_lt, List, [], ◌∷◌, map, slice_get, unwrap_or, None, codes, if◌then◌else◌}
+use Rattle.std.specs.Prelude.{ℕ, ◌+◌, ◌%◌, zero, suc, nat_lt, List, [], ◌∷◌, map, slice_get, unwrap_or, None, codes, if◌then◌else◌}
 use Rattle.std.specs.List.{range_with_len}
 use Rattle.script_words.specs.Generator.{next_number}
 use Rattle.scenario_file.specs.declared.scenario.Domain.{Domain}
