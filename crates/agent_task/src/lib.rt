@@ -13,4 +13,4 @@ mod hearing;
 mod line;
 mod task;
 
-pub use task::{AgentDone, AgentTask, AgentTurn};
+pub use task::{AgentDone, AgentTask};

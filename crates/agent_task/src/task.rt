@@ -16,7 +16,9 @@ use std::alloc::Global;
 use std::collections::VecDeque;
 use std::marker::Model;
 use std::snapshot::Snapshot;
-use task_duties::{CallDone, ControlEnd, DataEnd, RetiredEnd, ServedDone, SessionEnd, UnmadeEnds};
+use task_duties::{
+    CallDone, ControlEnd, DataEnd, RetiredEnd, ServedDone, SessionEnd, TaskTurn, UnmadeEnds,
+};
 use vchan_io::Memory;
 use vchan_rule::End;
 
@@ -49,20 +51,6 @@ impl<'p> Model for AgentTask<'p> {
     ghost view = { λ t. state_in t.agent.value };
 
     ghost invariant = { λ t. IsSomeAnd t.agent.value IsRunning × (0 < length t.scratch.items) × (t.ended.items ≡ []) };
-}
-
-/// What a turn of an agent's task returns.
-pub enum AgentTurn<'p> {
-    /// The task wants another turn.
-    Again(AgentTask<'p>),
-    /// The control channel is over, and so are all sessions.
-    Done(AgentDone),
-    /// Memory ran out.
-    NoMemory {
-        /// The ends, all of them retired, in the order in which they were given, with the end of the control
-        /// page first.
-        ends: Vec<RetiredEnd>,
-    },
 }
 
 /// The memory of a task that has no ends yet.
@@ -195,7 +183,7 @@ impl<'p> AgentTask<'p> {
 
     /// Makes one turn, which is a round over all channels. Once the control channel and all sessions are
     /// over, it gives the report. If memory runs out, it gives all ends back.
-    pub fn turn(self) -> AgentTurn<'p>
+    pub fn turn(self) -> TaskTurn<AgentTask<'p>, AgentDone>
         ensures pays { Pays (task_given self.entry) result }
         ensures tells { Tells self.entry.plan result }
         ensures goes { GoesOn self.entry result }
@@ -208,11 +196,11 @@ impl<'p> AgentTask<'p> {
         } = self;
         let Ok(moved) = go_round(&mut agent, &mut scratch, &mut ended) else {
             let ends = taken(agent).give_up();
-            return AgentTurn::NoMemory { ends };
+            return TaskTurn::NoMemory { ends };
         };
         match over_at(&agent) {
             Some(over) => AgentTask::finish(taken(agent), over),
-            None => AgentTurn::Again(AgentTask {
+            None => TaskTurn::Again(AgentTask {
                 agent,
                 scratch,
                 ended,
@@ -231,7 +219,7 @@ impl<'p> AgentTask<'p> {
     }
 
     // Gives the report. Everything is over.
-    fn finish(agent: Agent<'p>, over: ControlEnd) -> AgentTurn<'p>
+    fn finish(agent: Agent<'p>, over: ControlEnd) -> TaskTurn<AgentTask<'p>, AgentDone>
         requires over { IsOver over agent }
         requires idle { agent.slots.opened ≡ [] }
         ensures pays { Pays (given_of agent.entry.given) result }
@@ -239,8 +227,8 @@ impl<'p> AgentTask<'p> {
         ensures done { (before : AgentState) → GoesOn before result }
     {
         match agent.finish(over) {
-            Ok(done) => AgentTurn::Done(done),
-            Err(ends) => AgentTurn::NoMemory { ends },
+            Ok(done) => TaskTurn::Done(done),
+            Err(ends) => TaskTurn::NoMemory { ends },
         }
     }
 }

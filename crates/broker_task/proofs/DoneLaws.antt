@@ -25,12 +25,13 @@ use Rattle.task_duties.proofs.Elements.{each_at, has_from}
 use Rattle.broker_task.specs.declared.outbox.Letter.{Letter}
 use Rattle.broker_task.specs.declared.daemon.Daemon.{Daemon}
 use Rattle.broker_task.specs.declared.switchboard.Switchboard.{Switchboard}
-use Rattle.broker_task.specs.declared.task.BrokerTurn.{BrokerTurn}
-use Rattle.broker_task.specs.declared.task.BrokerTurn.TheVariants as turn
+use Rattle.task_duties.specs.declared.turn.TaskTurn.{TaskTurn}
+use Rattle.broker_task.specs.declared.task.BrokerDone.{BrokerDone}
+use Rattle.task_duties.specs.declared.turn.TaskTurn.TheVariants as turn
 use Rattle.broker_task.specs.Letters.{IsAt, messages_in}
 use Rattle.broker_task.specs.Lines.{end_of, BrokerEnd, is_gone, first_view, MayDrop, IsLine, events_got}
 use Rattle.broker_task.specs.Posting.{EachAt, EachMoves, MayGo, HasPosted}
-use Rattle.broker_task.specs.Given.{given_now, retired_end, IsRetiredOf}
+use Rattle.broker_task.specs.Given.{BrokerState, given_now, retired_end, IsRetiredOf}
 use Rattle.broker_task.specs.Rounds.{IsReady, GoesOn, IsSettled}
 use Rattle.broker_task.specs.Standing.{Stands}
 use Rattle.broker_task.specs.Turns.{Pays, StandsAfter, Finishes}
@@ -217,7 +218,7 @@ owes s ready settled = record {
     awaited_is : (d : ℕ) (there : is_domain s.broker.hub d ≡ true) → awaited_of (map (λ z. z.awaited) s.daemons.items) d ≡ (daemon d there).0.awaited
     awaited_is d there = let at = daemon d there in awaited_at s.daemons.items (d - 1) at.0 at.2
 
-pub done_pays : (s : Switchboard) (result : BrokerTurn) → IsReady s → EachAt (IsSettled s.broker.hub s.broker.journal (length s.daemons.items)) s.daemons.items → Finishes s result → Pays (given_now s) result
+pub done_pays : (s : Switchboard) (result : TaskTurn BrokerState BrokerDone) → IsReady s → EachAt (IsSettled s.broker.hub s.broker.journal (length s.daemons.items)) s.daemons.items → Finishes s result → Pays (given_now s) result
 done_pays s (turn.Again task) ready settled finishes = absurd finishes
 done_pays s (turn.NoMemory ends) ready settled finishes = absurd finishes
 done_pays s (turn.Done done) ready settled finishes = (
@@ -233,7 +234,7 @@ done_pays s (turn.Done done) ready settled finishes = (
   subst (λ (b : Brokered). BrokerOwes s.broker.hub (map (λ x. x.awaited) s.daemons.items) b.journal (λ d. end_in s.daemons.items (Control d))) (sym finishes.0) (owes s ready settled),
 )
 
-pub done_stands : (s : Switchboard) (result : BrokerTurn) → IsReady s → Finishes s result → StandsAfter result
+pub done_stands : (s : Switchboard) (result : TaskTurn BrokerState BrokerDone) → IsReady s → Finishes s result → StandsAfter result
 done_stands s (turn.Again task) ready finishes = absurd finishes
 done_stands s (turn.NoMemory ends) ready finishes = absurd finishes
 done_stands s (turn.Done done) ready finishes = subst (λ (b : Brokered). Stands b.hub b.journal (map retired_end done.ends.items)) (sym finishes.0) (stands_done s done.ends.items ready finishes.1)

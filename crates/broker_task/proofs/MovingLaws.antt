@@ -16,8 +16,10 @@ use Rattle.std.proofs.lemmas.Bool.{false≢true}
 use Rattle.std.specs.List.{AllZip as EachPair}
 use Rattle.list_laws.proofs.Tests.{same_number}
 use Rattle.broker_task.specs.declared.switchboard.Switchboard.{Switchboard}
-use Rattle.broker_task.specs.declared.task.BrokerTurn.{BrokerTurn}
-use Rattle.broker_task.specs.declared.task.BrokerTurn.TheVariants as turn
+use Rattle.broker_task.specs.Given.{BrokerState}
+use Rattle.task_duties.specs.declared.turn.TaskTurn.{TaskTurn}
+use Rattle.broker_task.specs.declared.task.BrokerDone.{BrokerDone}
+use Rattle.task_duties.specs.declared.turn.TaskTurn.TheVariants as turn
 use Rattle.broker_task.specs.Turns.{TurnsEach, KeepsLines}
 use Rattle.vchan_protocol.specs.declared.call.EndState.{EndState}
 use Rattle.vchan_protocol.specs.declared.call.EndState.TheVariants.{Fresh, Open, Shut}
@@ -367,7 +369,7 @@ send_turns domain a b c d listens decides sends =
     steps_then domain Hears SendsOrNot Turns a c d (λ x y z h s. record { begun = ap is_begun s.up; grows = grows_sending x h.a y z h.listens h.decides s; found = λ up. turned_own x h.a y z h.listens h.decides s })
     (steps_then domain Listens Decides Hears a b c (λ x y z l p. record { a = y; listens = l; decides = p }) listens decides) sends
 
-pub turns_each : (old new : Switchboard) (result : BrokerTurn) → EachMoves (λ d. Turns) old.daemons.items new.daemons.items → KeepsLines new result → TurnsEach (map line_of old.daemons.items) result
+pub turns_each : (old new : Switchboard) (result : TaskTurn BrokerState BrokerDone) → EachMoves (λ d. Turns) old.daemons.items new.daemons.items → KeepsLines new result → TurnsEach (map line_of old.daemons.items) result
 turns_each old new (turn.Again task) moves is = subst (λ (lines : List BrokerLine). EachPair HasTurned (map line_of old.daemons.items) lines) (sym is) (pairs_lines old.daemons.items new.daemons.items moves)
 turns_each old new (turn.Done done) moves is = tt
 turns_each old new (turn.NoMemory ends) moves is = tt

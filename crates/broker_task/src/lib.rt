@@ -15,4 +15,4 @@ mod settled;
 mod switchboard;
 mod task;
 
-pub use task::{BrokerDone, BrokerTask, BrokerTurn};
+pub use task::{BrokerDone, BrokerTask};

@@ -6,7 +6,7 @@ use crate::switchboard::Switchboard;
 use call_broker::Broker;
 use std::alloc::Global;
 use std::marker::Model;
-use task_duties::RetiredEnd;
+use task_duties::{RetiredEnd, TaskTurn};
 use vchan_io::Memory;
 use vchan_rule::End;
 
@@ -37,19 +37,6 @@ impl<'p> Model for BrokerTask<'p> {
 
     ghost invariant = { λ t. IsReady t.switchboard × (0 < length t.buf.items)
         × (t.retired.items ≡ []) × (length t.switchboard.daemons.items ≤ vec_capacity t.retired) };
-}
-
-/// What a turn of the task returns.
-pub enum BrokerTurn<'p> {
-    /// The task wants another turn.
-    Again(BrokerTask<'p>),
-    /// All domains are settled or dropped.
-    Done(BrokerDone),
-    /// Memory ran out. All ends are retired.
-    NoMemory {
-        /// The ends, in the order in which they were given, which is that of the domains.
-        ends: Vec<RetiredEnd>,
-    },
 }
 
 /// A broker that is done.
@@ -132,7 +119,7 @@ impl<'p> BrokerTask<'p> {
     /// Of each domain that isn't dropped something was heard in the turn, or something said to it; or there was
     /// nothing to hear, and nothing that could be said: all that waits is held, or there was no room. Of no domain
     /// fewer bytes were heard or said than before, and one that was dropped stays so.
-    pub fn turn(self) -> BrokerTurn<'p>
+    pub fn turn(self) -> TaskTurn<BrokerTask<'p>, BrokerDone>
         ensures pays { Pays (task_given self.entry) result }
         ensures stands { StandsAfter result }
         ensures turns { TurnsEach self.entry.lines result }
@@ -151,7 +138,7 @@ impl<'p> BrokerTask<'p> {
             }
             Err(Memory) => {
                 let ends = give_up(switchboard.daemons, retired);
-                BrokerTurn::NoMemory { ends }
+                TaskTurn::NoMemory { ends }
             }
         }
     }
@@ -175,7 +162,7 @@ fn after_round<'p>(
     buf: Vec<u8>,
     retired: Vec<RetiredEnd>,
     moved: bool,
-) -> BrokerTurn<'p>
+) -> TaskTurn<BrokerTask<'p>, BrokerDone>
     requires ready { IsReady switchboard }
     requires some { 0 < length buf.items }
     requires empty { retired.items ≡ [] }
@@ -187,7 +174,7 @@ fn after_round<'p>(
     if switchboard.is_settled() {
         return finish(switchboard, retired);
     }
-    BrokerTurn::Again(BrokerTask {
+    TaskTurn::Again(BrokerTask {
         switchboard,
         buf,
         retired,
@@ -196,7 +183,10 @@ fn after_round<'p>(
 }
 
 // Gives the broker and all ends back.
-fn finish<'p>(switchboard: Switchboard<'p>, retired: Vec<RetiredEnd>) -> BrokerTurn<'p>
+fn finish<'p>(
+    switchboard: Switchboard<'p>,
+    retired: Vec<RetiredEnd>,
+) -> TaskTurn<BrokerTask<'p>, BrokerDone>
     requires lines { Each (λ x. IsLine x.domain x) switchboard.daemons.items }
     requires empty { retired.items ≡ [] }
     requires room { length switchboard.daemons.items ≤ vec_capacity retired }
@@ -204,5 +194,5 @@ fn finish<'p>(switchboard: Switchboard<'p>, retired: Vec<RetiredEnd>) -> BrokerT
 {
     let Switchboard { broker, daemons } = switchboard;
     let ends = retire_all(daemons, retired);
-    BrokerTurn::Done(BrokerDone { broker, ends })
+    TaskTurn::Done(BrokerDone { broker, ends })
 }

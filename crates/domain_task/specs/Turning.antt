@@ -2,13 +2,11 @@
 -- Source: this project's own.
 use Rattle.task_pool.specs.declared.task.Turn.{Turn}
 use Rattle.task_pool.specs.declared.task.Turn.TheVariants as turn
-use Rattle.agent_task.specs.declared.task.AgentTurn.TheVariants as agent
+use Rattle.task_duties.specs.declared.turn.TaskTurn.TheVariants as own
 use Rattle.agent_task.specs.State.{AgentState}
 use Rattle.agent_task.specs.Turns.{Tells, GoesOn}
-use Rattle.broker_task.specs.declared.task.BrokerTurn.TheVariants as broker
 use Rattle.broker_task.specs.Given.{BrokerState}
 use Rattle.broker_task.specs.Turns.{StandsAfter, TurnsEach}
-use Rattle.hostile_task.specs.declared.task.HostileTurn.TheVariants as hostile
 use Rattle.hostile_task.specs.Plan.{HostileState}
 use Rattle.hostile_task.specs.Turns.{Pays}
 use Rattle.domain_task.specs.declared.done.TaskDone.{TaskDone}
@@ -18,23 +16,23 @@ use Rattle.domain_task.specs.declared.task.Task.TheVariants.{Agent, Broker, Host
 
 -- an agent: what it has reported, and of its control channel and each of its sessions what moved, or why nothing did
 abbrev pub AgentTurns : AgentState → Turn Task TaskDone → Type 0
-AgentTurns before (turn.Again (Agent now)) = Tells before.plan (agent.Again now) × GoesOn before (agent.Again now)
-AgentTurns before (turn.Done (done.Agent answer)) = Tells before.plan (agent.Done answer)
+AgentTurns before (turn.Again (Agent now)) = Tells before.plan (own.Again now) × GoesOn before (own.Again now)
+AgentTurns before (turn.Done (done.Agent answer)) = Tells before.plan (own.Done answer)
 AgentTurns before (turn.Done (done.NoMemory ends)) = Unit {0}
 AgentTurns before other = ⊥
 
 -- the broker: how each domain stands, and what was heard from it or said to it, or why nothing was
 abbrev pub BrokerTurns : BrokerState → Turn Task TaskDone → Type 0
-BrokerTurns before (turn.Again (Broker now)) = StandsAfter (broker.Again now) × TurnsEach before.lines (broker.Again now)
-BrokerTurns before (turn.Done (done.Broker answer)) = StandsAfter (broker.Done answer)
+BrokerTurns before (turn.Again (Broker now)) = StandsAfter (own.Again now) × TurnsEach before.lines (own.Again now)
+BrokerTurns before (turn.Done (done.Broker answer)) = StandsAfter (own.Done answer)
 BrokerTurns before (turn.Done (done.NoMemory ends)) = Unit {0}
 BrokerTurns before other = ⊥
 
 -- a hostile domain: one turn of its acts is done, or none was left
 abbrev pub HostileTurns : HostileState → Turn Task TaskDone → Type 0
-HostileTurns before (turn.Again (Hostile now)) = Pays before (hostile.Again now)
-HostileTurns before (turn.Done (done.Hostile answer)) = Pays before (hostile.Done answer)
-HostileTurns before (turn.Done (done.NoMemory ends)) = Pays before (hostile.NoMemory ends)
+HostileTurns before (turn.Again (Hostile now)) = Pays before (own.Again now)
+HostileTurns before (turn.Done (done.Hostile answer)) = Pays before (own.Done answer)
+HostileTurns before (turn.Done (done.NoMemory ends)) = Pays before (own.NoMemory ends)
 HostileTurns before other = ⊥
 
 -- a task goes on as one of its own kind

@@ -6,9 +6,10 @@ ghost use Rattle.domain_task.specs.Working.{Works};
 
 use crate::done::TaskDone;
 use crate::task::Task;
-use agent_task::{AgentTask, AgentTurn};
-use broker_task::{BrokerTask, BrokerTurn};
-use hostile_task::{HostileTask, HostileTurn};
+use agent_task::AgentTask;
+use broker_task::BrokerTask;
+use hostile_task::HostileTask;
+use task_duties::TaskTurn;
 use task_pool::{PoolTask, Turn};
 
 impl<'p> PoolTask for Task<'p> {
@@ -50,9 +51,9 @@ fn turn_agent<'p>(task: AgentTask<'p>) -> Turn<Task<'p>>
     ensures turns { TaskTurns (Task.Agent task.entry) result }
 {
     match task.turn() {
-        AgentTurn::Again(task) => Turn::Again(Task::Agent(task)),
-        AgentTurn::Done(done) => Turn::Done(TaskDone::Agent(done)),
-        AgentTurn::NoMemory { ends } => Turn::Done(TaskDone::NoMemory { ends }),
+        TaskTurn::Again(task) => Turn::Again(Task::Agent(task)),
+        TaskTurn::Done(done) => Turn::Done(TaskDone::Agent(done)),
+        TaskTurn::NoMemory { ends } => Turn::Done(TaskDone::NoMemory { ends }),
     }
 }
 
@@ -62,9 +63,9 @@ fn turn_broker<'p>(task: BrokerTask<'p>) -> Turn<Task<'p>>
     ensures turns { TaskTurns (Task.Broker task.entry) result }
 {
     match task.turn() {
-        BrokerTurn::Again(task) => Turn::Again(Task::Broker(task)),
-        BrokerTurn::Done(done) => Turn::Done(TaskDone::Broker(done)),
-        BrokerTurn::NoMemory { ends } => Turn::Done(TaskDone::NoMemory { ends }),
+        TaskTurn::Again(task) => Turn::Again(Task::Broker(task)),
+        TaskTurn::Done(done) => Turn::Done(TaskDone::Broker(done)),
+        TaskTurn::NoMemory { ends } => Turn::Done(TaskDone::NoMemory { ends }),
     }
 }
 
@@ -74,8 +75,8 @@ fn turn_hostile<'p>(task: HostileTask<'p>) -> Turn<Task<'p>>
     ensures turns { TaskTurns (Task.Hostile task.entry) result }
 {
     match task.turn() {
-        HostileTurn::Again(task) => Turn::Again(Task::Hostile(task)),
-        HostileTurn::Done(done) => Turn::Done(TaskDone::Hostile(done)),
-        HostileTurn::NoMemory { ends } => Turn::Done(TaskDone::NoMemory { ends }),
+        TaskTurn::Again(task) => Turn::Again(Task::Hostile(task)),
+        TaskTurn::Done(done) => Turn::Done(TaskDone::Hostile(done)),
+        TaskTurn::NoMemory { ends } => Turn::Done(TaskDone::NoMemory { ends }),
     }
 }

@@ -29,9 +29,10 @@ use Rattle.hostile_task.specs.declared.domain.HostileDomain.{HostileDomain}
 use Rattle.hostile_task.specs.declared.page.TurnedPage.{TurnedPage}
 use Rattle.hostile_task.specs.declared.pages.Pages.{Pages}
 use Rattle.hostile_task.specs.declared.progress.Progress.{Progress}
-use Rattle.hostile_task.specs.declared.task.HostileTurn.{HostileTurn}
-use Rattle.hostile_task.specs.declared.task.HostileTurn.TheVariants as turn
-use Rattle.hostile_task.specs.Plan.{plan_of, AreApart}
+use Rattle.task_duties.specs.declared.turn.TaskTurn.{TaskTurn}
+use Rattle.hostile_task.specs.declared.task.HostileDone.{HostileDone}
+use Rattle.task_duties.specs.declared.turn.TaskTurn.TheVariants as turn
+use Rattle.hostile_task.specs.Plan.{HostileState, plan_of, AreApart}
 use Rattle.hostile_task.specs.Pages.{AreSamePages, IsRetiredOf, given_in, given_of, places_in}
 use Rattle.hostile_task.specs.UnderWay.{IsTrailSoFar, IsPart, words_at, ActsDone, IsPageSoFar, IsUnderWay}
 use Rattle.hostile_task.specs.Finishing.{Finishes}
@@ -136,7 +137,7 @@ pub back_pays : (domain : HostileDomain) (old new : Pages) (p next : Progress) (
 back_pays domain old new p next spelled rs same way retired =
     (true, subst (λ (given : List EndAt). AreGivenBack true given (all_retired rs)) same.given (are_back (plan_of domain (places_in new)) next (new.control ∷ new.payload.items) rs way.so_far retired))
 
-pub done_pays : (domain : HostileDomain) (pages : Pages) (p : Progress) (spelled : List ℕ) (result : HostileTurn) → IsUnderWay domain pages p spelled → p.acts ≡ length domain.acts → Finishes domain.number pages result
+pub done_pays : (domain : HostileDomain) (pages : Pages) (p : Progress) (spelled : List ℕ) (result : TaskTurn HostileState HostileDone) → IsUnderWay domain pages p spelled → p.acts ≡ length domain.acts → Finishes domain.number pages result
     → Pays (state_of domain pages p) result
 done_pays domain pages p spelled (turn.Again task) way all finishes = absurd finishes
 done_pays domain pages p spelled (turn.NoMemory ends) way all finishes = absurd finishes

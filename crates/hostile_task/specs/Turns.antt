@@ -4,14 +4,16 @@ use Rattle.std.specs.Prelude.{◌≡◌, ℕ, ◌+◌, ◌-◌, ◌<◌, ◌≤�
 use Rattle.std.specs.Option.{option_and_then}
 use Rattle.std.specs.List.{AllByRecursion as Each, AllZip as EachPair}
 use Rattle.scenario_file.specs.declared.acts.Act.{Act}
-use Rattle.task_duties.specs.TaskOwes.{TaskOwes, Hostile, HostileDone, NoMemory, IsSameEnd}
+use Rattle.task_duties.specs.TaskOwes.{TaskOwes, Hostile, NoMemory, IsSameEnd}
+use Rattle.task_duties.specs.TaskOwes as duty
 use Rattle.task_duties.specs.GivenEnds.{all_retired}
 use Rattle.task_duties.specs.Hostile.Trail.{words_of}
 use Rattle.hostile_task.specs.Plan.{HostileState}
 use Rattle.hostile_task.specs.UnderWay.{IsTrailSoFar, most_turns}
 use Rattle.hostile_task.specs.declared.progress.Progress.{Progress}
-use Rattle.hostile_task.specs.declared.task.HostileTurn.{HostileTurn}
-use Rattle.hostile_task.specs.declared.task.HostileTurn.TheVariants as turn
+use Rattle.task_duties.specs.declared.turn.TaskTurn.{TaskTurn}
+use Rattle.hostile_task.specs.declared.task.HostileDone.{HostileDone}
+use Rattle.task_duties.specs.declared.turn.TaskTurn.TheVariants as turn
 
 -- ---- how many turns are left
 
@@ -48,8 +50,8 @@ pub record GoesOn (before now : HostileState) : Type 0 where
   pub so_far : HasDone now
 
 -- a task that goes on does so by one turn; one that is done had no turn left, and gives what it owed; if memory ran out, the task gives all its ends back
-abbrev pub Pays : HostileState → HostileTurn → Type 0
+abbrev pub Pays : HostileState → TaskTurn HostileState HostileDone → Type 0
 Pays before (turn.Again task) = GoesOn before task
 Pays before (turn.Done done) =
-    (turns_left before.plan.acts before.acts before.turns ≡ 0) × TaskOwes (Hostile before.plan before.ends) (HostileDone done.domain (all_retired done.ends.items))
+    (turns_left before.plan.acts before.acts before.turns ≡ 0) × TaskOwes (Hostile before.plan before.ends) (duty.HostileDone done.domain (all_retired done.ends.items))
 Pays before (turn.NoMemory ends) = TaskOwes (Hostile before.plan before.ends) (NoMemory (all_retired ends.items))

@@ -15,4 +15,4 @@ mod task;
 
 pub use domain::HostileDomain;
 pub use pages::field_of;
-pub use task::{HostileDone, HostileTask, HostileTurn};
+pub use task::{HostileDone, HostileTask};

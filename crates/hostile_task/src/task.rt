@@ -9,7 +9,7 @@ use ring_words::WordName;
 use scenario_file::Act;
 use std::alloc::Global;
 use std::marker::Model;
-use task_duties::{DataEnd, PagePlace, RetiredEnd, UnmadeEnds};
+use task_duties::{DataEnd, PagePlace, RetiredEnd, TaskTurn, UnmadeEnds};
 use vchan_io::Memory;
 use vchan_rule::End;
 
@@ -41,19 +41,6 @@ impl<'p> Model for HostileTask<'p> {
 
     ghost invariant = { λ t. IsUnderWay t.domain t.pages t.progress t.spelled.items
         × (t.retired.items ≡ []) × (length t.pages.payload.items + 1 ≤ vec_capacity t.retired) };
-}
-
-/// What a turn of such a task gives.
-pub enum HostileTurn<'p> {
-    /// The task wants another turn.
-    Again(HostileTask<'p>),
-    /// All acts are done.
-    Done(HostileDone),
-    /// Memory ran out. All ends have been retired.
-    NoMemory {
-        /// The ends, in the order in which they were given, the end of the control page first.
-        ends: Vec<RetiredEnd>,
-    },
 }
 
 /// A hostile domain that has done all its acts.
@@ -124,7 +111,7 @@ impl<'p> HostileTask<'p> {
     /// Makes one turn: of the next act, or of a rest or a saying that goes on, or, after the last act,
     /// the turn that retires the ends. Each turn leaves fewer turns of the acts than there were. If memory
     /// runs out, the ends retire too; to retire them takes none.
-    pub fn turn(self) -> HostileTurn<'p>
+    pub fn turn(self) -> TaskTurn<HostileTask<'p>, HostileDone>
         ensures { Pays self.entry result }
     {
         let HostileTask {
@@ -141,7 +128,7 @@ impl<'p> HostileTask<'p> {
         }
         let moved = !rests(&domain, progress.acts);
         match carry_out(alloc, &domain, &mut pages, &mut progress, &mut spelled) {
-            Ok(()) => HostileTurn::Again(HostileTask {
+            Ok(()) => TaskTurn::Again(HostileTask {
                 alloc,
                 domain,
                 pages,
@@ -152,7 +139,7 @@ impl<'p> HostileTask<'p> {
             }),
             Err(Memory) => {
                 let ends = pages.retire(retired);
-                HostileTurn::NoMemory { ends }
+                TaskTurn::NoMemory { ends }
             }
         }
     }
@@ -173,11 +160,15 @@ fn rests(domain: &HostileDomain, number: usize) -> bool {
 }
 
 // Retires all ends.
-fn finish<'p>(domain: u32, pages: Pages<'p>, retired: Vec<RetiredEnd>) -> HostileTurn<'p>
+fn finish<'p>(
+    domain: u32,
+    pages: Pages<'p>,
+    retired: Vec<RetiredEnd>,
+) -> TaskTurn<HostileTask<'p>, HostileDone>
     requires empty { retired.items ≡ [] }
     requires room { length pages.payload.items + 1 ≤ vec_capacity retired }
     ensures { Finishes domain pages.entry result }
 {
     let ends = pages.retire(retired);
-    HostileTurn::Done(HostileDone { domain, ends })
+    TaskTurn::Done(HostileDone { domain, ends })
 }

@@ -1,8 +1,9 @@
 //! How many turns the task of a hostile domain takes. Clauses say how many are left at most.
-use hostile_task::{HostileDomain, HostileTask, HostileTurn};
+use hostile_task::{HostileDomain, HostileTask};
 use scenario_file::{Domain, Scenario, read};
 use std::alloc::Global;
 use std::test::Fail;
+use task_duties::TaskTurn;
 use vchan_rule::Page;
 
 /// More turns than any of the lists of acts takes.
@@ -33,9 +34,9 @@ fn turns_of(alloc: Global, text: &[u8]) -> Result<u32, Fail> {
     };
     for turn in 1..MOST {
         task = match task.turn() {
-            HostileTurn::Again(task) => task,
-            HostileTurn::Done(_) => return Ok(turn),
-            HostileTurn::NoMemory { ends: _ends } => return Ok(0),
+            TaskTurn::Again(task) => task,
+            TaskTurn::Done(_done) => return Ok(turn),
+            TaskTurn::NoMemory { ends: _ends } => return Ok(0),
         };
     }
     Ok(MOST)

@@ -5,12 +5,13 @@ ghost use Rattle.ring_words.specs.declared.page.Role.TheVariants.{Server, Client
 ghost use Rattle.vchan_rule.specs.Seated.{IsOpen};
 ghost use Rattle.control_port.specs.declared.talk.Talker.TheVariants.{Broker};
 
-use agent_task::{AgentTask, AgentTurn};
+use agent_task::AgentTask;
 use control_port::{ControlPort, Talker};
 use qrexec_frame::{Message, Text, fits};
 use ring_words::check_orders;
 use std::alloc::Global;
 use std::test::Fail;
+use task_duties::TaskTurn;
 use vchan_io::Memory;
 use vchan_rule::{IdleSeat, Page};
 
@@ -132,9 +133,9 @@ fn agent_of(alloc: Global, page: &Page, server: IdleSeat) -> Result<AgentTask<'_
 /// Returns an agent after a turn, if it goes on.
 fn turned(agent: AgentTask<'_>) -> Option<AgentTask<'_>> {
     match agent.turn() {
-        AgentTurn::Again(agent) => Some(agent),
-        AgentTurn::Done(_done) => None,
-        AgentTurn::NoMemory { ends: _ends } => None,
+        TaskTurn::Again(agent) => Some(agent),
+        TaskTurn::Done(_done) => None,
+        TaskTurn::NoMemory { ends: _ends } => None,
     }
 }
 

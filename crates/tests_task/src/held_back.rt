@@ -6,13 +6,14 @@ ghost use Rattle.vchan_rule.specs.Seated.{IsOpen};
 ghost use Rattle.control_port.specs.declared.talk.Talker.TheVariants.{Agent};
 ghost use Rattle.broker_task.specs.Given.{IsNewClient};
 
-use broker_task::{BrokerTask, BrokerTurn};
+use broker_task::BrokerTask;
 use call_broker::{Broker, DomainEntry};
 use control_port::{ControlPort, Talker};
 use qrexec_frame::{Message, Text, fits};
 use ring_words::check_orders;
 use std::alloc::Global;
 use std::test::Fail;
+use task_duties::TaskTurn;
 use vchan_io::Memory;
 use vchan_packet::SendAnswer;
 use vchan_rule::{End, IdleSeat, Page};
@@ -154,9 +155,9 @@ fn turned_twice(task: BrokerTask<'_>) -> Option<BrokerTask<'_>> {
 /// Returns the task after a turn, if it wants another.
 fn turned(task: BrokerTask<'_>) -> Option<BrokerTask<'_>> {
     match task.turn() {
-        BrokerTurn::Again(task) => Some(task),
-        BrokerTurn::Done(_done) => None,
-        BrokerTurn::NoMemory { ends: _ends } => None,
+        TaskTurn::Again(task) => Some(task),
+        TaskTurn::Done(_done) => None,
+        TaskTurn::NoMemory { ends: _ends } => None,
     }
 }
 
