@@ -9,12 +9,12 @@ use Rattle.service_gate.proofs.EveryService.{small_codes}
 use Rattle.service_gate.specs.ServiceResult.{IsSmallCode}
 use Rattle.qrexec_data.specs.declared.outcome.Outcome.{Outcome}
 use Rattle.qrexec_data.specs.declared.outcome.Outcome.TheVariants.{Done, Fault, Closed, Gone}
-use Rattle.qrexec_data.specs.Answering.{AnsweringState, is_over, over_if, done_if, after_gone, laid_on}
+use Rattle.qrexec_data.specs.Answering.{AnsweringState, is_over, over_if, done_if, after_gone, packed_on}
 use Rattle.qrexec_data.specs.ServingSide.{ServingState, ServingStandsFor, AgreesWith, LendsAnswers}
 use Rattle.qrexec_data.specs.Seeing.{Seen, serving_sees, seen_by, serving_use}
 use Rattle.qrexec_data.specs.Sending.{ServingMaySend}
 use Rattle.qrexec_data.specs.Fitting.{FitsServing}
-use Rattle.qrexec_data.proofs.LaidLaws.{same_laid}
+use Rattle.qrexec_data.proofs.PackLaws.{same_packed}
 use Rattle.qrexec_data.proofs.MaySendLaws.{serving_may_send, serving_sent_all}
 use Rattle.vchan_rule.specs.Seated.{SeatedEnd, view}
 use Rattle.end_view.specs.EndView.{EndView}
@@ -54,11 +54,11 @@ chunk_over a = by_over (is_over a)
 pub works_on : (old lent new : ServingState Builtin) (end end' : SeatedEnd) (piece : List ℕ) (count : ℕ) → IsAtWork old end → old.answering.outcome ≡ None → LendsAnswers builtin_owes old lent piece
     → new ≡ record lent { answering = after_gone count lent.answering } → (view end').idle ≡ true → (view end').state ≡ (view end).state → (view end').ended ≡ (view end).ended → IsAtWork new end'
 works_on old lent new end end' piece count work none lends new_is idle state ended =
-    let next = laid_on old.answering.version old.answering in
-    let laid : lent.answering ≡ next = ap (λ s. s.answering) lends.new_is ∙ ap (λ o. if is_none o then next else old.answering) none in
-    let same = same_laid old.answering.version old.answering in
-    let outcome : lent.answering.outcome ≡ None = ap (λ a. a.outcome) laid ∙ same.outcome ∙ none in
-    let size : lent.answering.chunk ≡ chunk = ap (λ a. a.chunk) laid ∙ same.chunk ∙ work.chunk_is in
+    let next = packed_on old.answering.version old.answering in
+    let packed : lent.answering ≡ next = ap (λ s. s.answering) lends.new_is ∙ ap (λ o. if is_none o then next else old.answering) none in
+    let same = same_packed old.answering.version old.answering in
+    let outcome : lent.answering.outcome ≡ None = ap (λ a. a.outcome) packed ∙ same.outcome ∙ none in
+    let size : lent.answering.chunk ≡ chunk = ap (λ a. a.chunk) packed ∙ same.chunk ∙ work.chunk_is in
     let a = record lent.answering { waiting = drop count lent.answering.waiting } in
     let going : EndsBy None (view end) = subst (λ o. EndsBy o (view end)) none work.ends in
     let now : EndsBy None (view end') = (state ∙ going.0, ended ∙ going.1) in

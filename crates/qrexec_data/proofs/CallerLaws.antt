@@ -19,7 +19,7 @@ use Rattle.qrexec_data.specs.Seeing.{Seen, Undecided, caller_use, sees_all}
 use Rattle.qrexec_data.specs.Sending.{agreed, most}
 use Rattle.qrexec_data.specs.Reading.{InboxState, unread, read_messages}
 use Rattle.qrexec_data.specs.Replies.{RepliesState, after_message, faulted, KnowsReplies}
-use Rattle.qrexec_data.specs.Requests.{RequestsState, next_len, laid_next, laid_on, end_if, SendsInput, SendsRequests}
+use Rattle.qrexec_data.specs.Requests.{RequestsState, next_len, packed_next, packed_on, end_if, SendsInput, SendsRequests}
 use Rattle.qrexec_data.specs.CallerSide.{CallerState, ReadsReply, NothingLeft, OneMessage, OneFault, IsReading, HasRead, CallerStandsFor, LendsRequests, IsStill}
 use Rattle.qrexec_data.proofs.SpelledLaws.{spelled, spelled_behind, each_one, take_more, written_some}
 use Rattle.qrexec_data.proofs.ReadingLaws.{ReadsNext, reading_short, reading_bad, reading_next}
@@ -163,25 +163,25 @@ none_of false (Some o) is = refl
 -- ---- sending
 
 -- the input goes on
-sends_piece : (own limit : ℕ) (r : RequestsState) (sent : List ℕ) (n : ℕ) → SendsInput own limit r sent → r.closed ≡ false → 0 < n → n ≤ limit → n ≤ length r.input - r.laid
-    → SendsInput own limit (record r { laid = r.laid + n; waiting = r.waiting ++ written (Stdin (take n (drop r.laid r.input))) }) sent
+sends_piece : (own limit : ℕ) (r : RequestsState) (sent : List ℕ) (n : ℕ) → SendsInput own limit r sent → r.closed ≡ false → 0 < n → n ≤ limit → n ≤ length r.input - r.packed
+    → SendsInput own limit (record r { packed = r.packed + n; waiting = r.waiting ++ written (Stdin (take n (drop r.packed r.input))) }) sent
 sends_piece own limit r sent n s unclosed some least within =
-    let p : Piece = record { stream = In; bytes = take n (drop r.laid r.input) } in
-    let size : length (take n (drop r.laid r.input)) ≡ n = length-take-le n (drop r.laid r.input) (omega (arith, within, length-drop r.laid r.input)) in
+    let p : Piece = record { stream = In; bytes = take n (drop r.packed r.input) } in
+    let size : length (take n (drop r.packed r.input)) ≡ n = length-take-le n (drop r.packed r.input) (omega (arith, within, length-drop r.packed r.input)) in
     let before : s.pieces ++ end_if r.closed ≡ s.pieces = rw unclosed (append-nil s.pieces) in
     let stream : sent ++ r.waiting ≡ written (Hello own) ++ spelled s.pieces = s.stream ∙ ap (λ ps. written (Hello own) ++ spelled ps) before in
     let after : (s.pieces ++ p ∷ []) ++ end_if r.closed ≡ s.pieces ++ p ∷ [] = rw unclosed (append-nil (s.pieces ++ p ∷ [])) in
     record {
       pieces = s.pieces ++ p ∷ [];
       each = each_one is_input limit s.pieces p s.each ((refl, omega (arith, size, some), omega (arith, size, least)), tt);
-      all = joined_piece In s.pieces p refl ∙ ap (λ x. x ++ take n (drop r.laid r.input)) s.all ∙ take_more r.input r.laid n s.within;
+      all = joined_piece In s.pieces p refl ∙ ap (λ x. x ++ take n (drop r.packed r.input)) s.all ∙ take_more r.input r.packed n s.within;
       within = omega (arith, within, s.within);
       stream = spelled_behind (written (Hello own)) sent r.waiting s.pieces p stream ∙ ap (λ ps. written (Hello own) ++ spelled ps) (sym after);
       done = λ yes. let no : false ≡ true = sym unclosed ∙ yes in cc;
     }
 
 -- the input's end
-sends_end : (own limit : ℕ) (r : RequestsState) (sent : List ℕ) → SendsInput own limit r sent → r.closed ≡ false → length r.input ≤ r.laid
+sends_end : (own limit : ℕ) (r : RequestsState) (sent : List ℕ) → SendsInput own limit r sent → r.closed ≡ false → length r.input ≤ r.packed
     → SendsInput own limit (record r { closed = true; waiting = r.waiting ++ written (Stdin []) }) sent
 sends_end own limit r sent s unclosed all =
     let before : s.pieces ++ end_if r.closed ≡ s.pieces = rw unclosed (append-nil s.pieces) in
@@ -195,44 +195,44 @@ sends_end own limit r sent s unclosed all =
       done = λ yes. omega (arith, all, s.within);
     }
 
-sends_next : (own version : ℕ) (r : RequestsState) (sent : List ℕ) → 0 < r.chunk → SendsInput own (min r.chunk (most version)) r sent → SendsInput own (min r.chunk (most version)) (laid_next version r) sent
+sends_next : (own version : ℕ) (r : RequestsState) (sent : List ℕ) → 0 < r.chunk → SendsInput own (min r.chunk (most version)) r sent → SendsInput own (min r.chunk (most version)) (packed_next version r) sent
 sends_next own version r sent some s = by_closed r.closed refl
   where
     Is : RequestsState → Type 0
     Is x = SendsInput own (min r.chunk (most version)) x sent
 
-    by_more : r.closed ≡ false → (b : Bool) → nat_lt r.laid (length r.input) ≡ b → Is (laid_next version r)
+    by_more : r.closed ≡ false → (b : Bool) → nat_lt r.packed (length r.input) ≡ b → Is (packed_next version r)
     by_more unclosed true is =
-        let less : r.laid < length r.input = grind (arith, nat_tests, is) in
+        let less : r.packed < length r.input = grind (arith, nat_tests, is) in
         let limit = some_limit r.chunk version some in
-        subst Is (sym (if_false r.closed _ _ unclosed ∙ if_true (nat_lt r.laid (length r.input)) _ _ is))
+        subst Is (sym (if_false r.closed _ _ unclosed ∙ if_true (nat_lt r.packed (length r.input)) _ _ is))
         (sends_piece own (min r.chunk (most version)) r sent (next_len version r) s unclosed (omega (arith, limit, less)) (omega arith) (omega arith))
     by_more unclosed false is =
-        let all : length r.input ≤ r.laid = grind (arith, nat_tests, is) in
-        subst Is (sym (if_false r.closed _ _ unclosed ∙ if_false (nat_lt r.laid (length r.input)) _ _ is)) (sends_end own (min r.chunk (most version)) r sent s unclosed all)
+        let all : length r.input ≤ r.packed = grind (arith, nat_tests, is) in
+        subst Is (sym (if_false r.closed _ _ unclosed ∙ if_false (nat_lt r.packed (length r.input)) _ _ is)) (sends_end own (min r.chunk (most version)) r sent s unclosed all)
 
-    by_closed : (b : Bool) → r.closed ≡ b → Is (laid_next version r)
+    by_closed : (b : Bool) → r.closed ≡ b → Is (packed_next version r)
     by_closed true is = subst Is (sym (if_true r.closed _ _ is)) s
-    by_closed false is = by_more is (nat_lt r.laid (length r.input)) refl
+    by_closed false is = by_more is (nat_lt r.packed (length r.input)) refl
 
-pub sends_laid : (own : ℕ) (version : Option ℕ) (r : RequestsState) (sent : List ℕ) → 0 < r.chunk → SendsRequests own version r sent → SendsRequests own version (laid_on version r) sent
-sends_laid own None r sent some s = s
-sends_laid own (Some version) r sent some s = by_waiting (length r.waiting == 0) refl
+pub sends_packed : (own : ℕ) (version : Option ℕ) (r : RequestsState) (sent : List ℕ) → 0 < r.chunk → SendsRequests own version r sent → SendsRequests own version (packed_on version r) sent
+sends_packed own None r sent some s = s
+sends_packed own (Some version) r sent some s = by_waiting (length r.waiting == 0) refl
   where
     Is : RequestsState → Type 0
     Is x = SendsInput own (min x.chunk (most version)) x sent
 
-    chunk : (laid_next version r).chunk ≡ r.chunk
-    chunk = same r.closed (nat_lt r.laid (length r.input))
+    chunk : (packed_next version r).chunk ≡ r.chunk
+    chunk = same r.closed (nat_lt r.packed (length r.input))
       where
-        same : (a b : Bool) → (if a then r else if b then record r { laid = r.laid + next_len version r; waiting = r.waiting ++ written (Stdin (take (next_len version r) (drop r.laid r.input))) } else record r { closed = true; waiting = r.waiting ++ written (Stdin []) }).chunk ≡ r.chunk
+        same : (a b : Bool) → (if a then r else if b then record r { packed = r.packed + next_len version r; waiting = r.waiting ++ written (Stdin (take (next_len version r) (drop r.packed r.input))) } else record r { closed = true; waiting = r.waiting ++ written (Stdin []) }).chunk ≡ r.chunk
         same true b = refl
         same false true = refl
         same false false = refl
 
-    by_waiting : (b : Bool) → (length r.waiting == 0) ≡ b → Is (laid_on (Some version) r)
+    by_waiting : (b : Bool) → (length r.waiting == 0) ≡ b → Is (packed_on (Some version) r)
     by_waiting true is =
-        let next : SendsInput own (min (laid_next version r).chunk (most version)) (laid_next version r) sent = rw chunk (sends_next own version r sent some s) in
+        let next : SendsInput own (min (packed_next version r).chunk (most version)) (packed_next version r) sent = rw chunk (sends_next own version r sent some s) in
         subst Is (sym (if_true (length r.waiting == 0) _ _ is)) next
     by_waiting false is = subst Is (sym (if_false (length r.waiting == 0) _ _ is)) s
 
@@ -240,64 +240,64 @@ sends_laid own (Some version) r sent some s = by_waiting (length r.waiting == 0)
 reads_still : (c : CallerState) (r : RequestsState) → HasRead c → HasRead (record c { requests = r })
 reads_still c r h = record { knows = h.knows; goes_on = λ none. let g = h.goes_on none in record { undecided = g.undecided; at = g.at; knows = g.knows } }
 
-chunk_laid : (version : Option ℕ) (r : RequestsState) → 0 < r.chunk → 0 < (laid_on version r).chunk
-chunk_laid None r some = some
-chunk_laid (Some version) r some = by_tests (length r.waiting == 0) r.closed (nat_lt r.laid (length r.input))
+chunk_packed : (version : Option ℕ) (r : RequestsState) → 0 < r.chunk → 0 < (packed_on version r).chunk
+chunk_packed None r some = some
+chunk_packed (Some version) r some = by_tests (length r.waiting == 0) r.closed (nat_lt r.packed (length r.input))
   where
-    by_tests : (w a b : Bool) → 0 < (if w then (if a then r else if b then record r { laid = r.laid + next_len version r; waiting = r.waiting ++ written (Stdin (take (next_len version r) (drop r.laid r.input))) } else record r { closed = true; waiting = r.waiting ++ written (Stdin []) }) else r).chunk
+    by_tests : (w a b : Bool) → 0 < (if w then (if a then r else if b then record r { packed = r.packed + next_len version r; waiting = r.waiting ++ written (Stdin (take (next_len version r) (drop r.packed r.input))) } else record r { closed = true; waiting = r.waiting ++ written (Stdin []) }) else r).chunk
     by_tests true true b = some
     by_tests true false true = some
     by_tests true false false = some
     by_tests false a b = some
 
-pub stands_laid : (c : CallerState) (sent : List ℕ) → CallerStandsFor c sent → CallerStandsFor (record c { requests = laid_on c.replies.version c.requests }) sent
-stands_laid c sent s = record {
-  chunk = chunk_laid c.replies.version c.requests s.chunk;
-  read = reads_still c (laid_on c.replies.version c.requests) s.read;
-  sends = sends_laid c.replies.own c.replies.version c.requests sent s.chunk s.sends;
+pub stands_packed : (c : CallerState) (sent : List ℕ) → CallerStandsFor c sent → CallerStandsFor (record c { requests = packed_on c.replies.version c.requests }) sent
+stands_packed c sent s = record {
+  chunk = chunk_packed c.replies.version c.requests s.chunk;
+  read = reads_still c (packed_on c.replies.version c.requests) s.read;
+  sends = sends_packed c.replies.own c.replies.version c.requests sent s.chunk s.sends;
 }
 
-pub lends : (old : CallerState) (r : RequestsState) (piece : List ℕ) → old.replies.outcome ≡ None → r ≡ laid_on old.replies.version old.requests → piece ≡ r.waiting
+pub lends : (old : CallerState) (r : RequestsState) (piece : List ℕ) → old.replies.outcome ≡ None → r ≡ packed_on old.replies.version old.requests → piece ≡ r.waiting
     → LendsRequests old (record old { requests = r }) piece
 lends old r piece none is lent =
     let yes : is_none old.replies.outcome ≡ true = rw none refl in
     record {
       piece_is = lent ∙ sym (if_true (is_none old.replies.outcome) _ _ yes);
       new_is = ap (λ x. later x) (is ∙ sym (if_true (is_none old.replies.outcome) _ _ yes));
-      stands = λ sent s. let P : RequestsState → Type 0 = λ x. CallerStandsFor (record old { requests = x }) sent in subst P (sym is) (stands_laid old sent s);
+      stands = λ sent s. let P : RequestsState → Type 0 = λ x. CallerStandsFor (record old { requests = x }) sent in subst P (sym is) (stands_packed old sent s);
     }
   where
     later : RequestsState → CallerState
     later x = record old { requests = x }
 
-pub still : (c : CallerState) → c.replies.outcome ≡ None → ((laid_on c.replies.version c.requests).waiting ≡ []) ↔ IsStill c
+pub still : (c : CallerState) → c.replies.outcome ≡ None → ((packed_on c.replies.version c.requests).waiting ≡ []) ↔ IsStill c
 still c none = by_version c.replies.version refl
   where
     By : Option ℕ → Type 0
-    By v = ((laid_on v c.requests).waiting ≡ []) ↔ IsStill c
+    By v = ((packed_on v c.requests).waiting ≡ []) ↔ IsStill c
 
     nothing_decided : IsSome c.replies.outcome → ⊥
     nothing_decided some = none_is c.replies.outcome none some
 
-    by_closed : (version : ℕ) → c.replies.version ≡ Some version → c.requests.waiting ≡ [] → (b : Bool) → c.requests.closed ≡ b → ((laid_next version c.requests).waiting ≡ []) ↔ IsStill c
+    by_closed : (version : ℕ) → c.replies.version ≡ Some version → c.requests.waiting ≡ [] → (b : Bool) → c.requests.closed ≡ b → ((packed_next version c.requests).waiting ≡ []) ↔ IsStill c
     by_closed version is empty true closed =
-        let same : laid_next version c.requests ≡ c.requests = if_true c.requests.closed _ _ closed in
+        let same : packed_next version c.requests ≡ c.requests = if_true c.requests.closed _ _ closed in
         (λ h. inr (inl (closed, empty)), λ h. ap (λ r. r.waiting) same ∙ empty)
-    by_closed version is empty false closed = by_more (nat_lt c.requests.laid (length c.requests.input)) refl
+    by_closed version is empty false closed = by_more (nat_lt c.requests.packed (length c.requests.input)) refl
       where
         not_still : IsStill c → ⊥
         not_still (inl some) = nothing_decided some
         not_still (inr (inl all)) = let no : false ≡ true = sym closed ∙ all.0 in cc
         not_still (inr (inr waits)) = let no : None ≡ Some version = sym waits.0 ∙ is in cc
 
-        by_more : (b : Bool) → nat_lt c.requests.laid (length c.requests.input) ≡ b → ((laid_next version c.requests).waiting ≡ []) ↔ IsStill c
+        by_more : (b : Bool) → nat_lt c.requests.packed (length c.requests.input) ≡ b → ((packed_next version c.requests).waiting ≡ []) ↔ IsStill c
         by_more true more =
-            let r : laid_next version c.requests ≡ record c.requests { laid = c.requests.laid + next_len version c.requests; waiting = c.requests.waiting ++ written (Stdin (take (next_len version c.requests) (drop c.requests.laid c.requests.input))) }
-            = if_false c.requests.closed _ _ closed ∙ if_true (nat_lt c.requests.laid (length c.requests.input)) _ _ more in
-            (λ h. absurd (not_empty_lem c.requests.waiting _ (written_some (record { stream = In; bytes = take (next_len version c.requests) (drop c.requests.laid c.requests.input) })) (sym (ap (λ x. x.waiting) r) ∙ h)), λ h. absurd (not_still h))
+            let r : packed_next version c.requests ≡ record c.requests { packed = c.requests.packed + next_len version c.requests; waiting = c.requests.waiting ++ written (Stdin (take (next_len version c.requests) (drop c.requests.packed c.requests.input))) }
+            = if_false c.requests.closed _ _ closed ∙ if_true (nat_lt c.requests.packed (length c.requests.input)) _ _ more in
+            (λ h. absurd (not_empty_lem c.requests.waiting _ (written_some (record { stream = In; bytes = take (next_len version c.requests) (drop c.requests.packed c.requests.input) })) (sym (ap (λ x. x.waiting) r) ∙ h)), λ h. absurd (not_still h))
         by_more false more =
-            let r : laid_next version c.requests ≡ record c.requests { closed = true; waiting = c.requests.waiting ++ written (Stdin []) }
-            = if_false c.requests.closed _ _ closed ∙ if_false (nat_lt c.requests.laid (length c.requests.input)) _ _ more in
+            let r : packed_next version c.requests ≡ record c.requests { closed = true; waiting = c.requests.waiting ++ written (Stdin []) }
+            = if_false c.requests.closed _ _ closed ∙ if_false (nat_lt c.requests.packed (length c.requests.input)) _ _ more in
             (λ h. absurd (not_empty_lem c.requests.waiting _ (written_some (end_of In)) (sym (ap (λ x. x.waiting) r) ∙ h)), λ h. absurd (not_still h))
 
     by_waiting : (version : ℕ) → c.replies.version ≡ Some version → (b : Bool) → (length c.requests.waiting == 0) ≡ b → By (Some version)
@@ -328,10 +328,10 @@ none_if None is = refl
 none_if (Some x) is = cc
 
 pub lends_inside : (old inside : CallerState) (r : RequestsState) (version : Option ℕ) (piece : List ℕ) → inside ≡ old → is_some inside.replies.outcome ≡ false → version ≡ inside.replies.version
-    → r ≡ laid_on version inside.requests → piece ≡ r.waiting → LendsRequests old (record inside { requests = r }) piece × ((piece ≡ []) ↔ IsStill old)
-lends_inside old inside r version piece same none agreed laid lent =
-    let is : r ≡ laid_on inside.replies.version inside.requests = laid ∙ ap (λ v. laid_on v inside.requests) agreed in
+    → r ≡ packed_on version inside.requests → piece ≡ r.waiting → LendsRequests old (record inside { requests = r }) piece × ((piece ≡ []) ↔ IsStill old)
+lends_inside old inside r version piece same none agreed packed lent =
+    let is : r ≡ packed_on inside.replies.version inside.requests = packed ∙ ap (λ v. packed_on v inside.requests) agreed in
     let P : CallerState → Type 0 = λ c. LendsRequests c (record inside { requests = r }) piece × ((piece ≡ []) ↔ IsStill c) in
     let s = still inside (none_if inside.replies.outcome none) in
-    let w : piece ≡ (laid_on inside.replies.version inside.requests).waiting = lent ∙ ap (λ x. x.waiting) is in
+    let w : piece ≡ (packed_on inside.replies.version inside.requests).waiting = lent ∙ ap (λ x. x.waiting) is in
     subst P same (lends inside r piece (none_if inside.replies.outcome none) is lent, (λ h. s.0 (sym w ∙ h), λ h. w ∙ s.1 h))

@@ -10,5 +10,5 @@ pub mod CallerLaws
 pub mod AnsweringLaws
 pub mod ServesLaws
 pub mod ServingLaws
-pub mod LaidLaws
+pub mod PackLaws
 pub mod MaySendLaws

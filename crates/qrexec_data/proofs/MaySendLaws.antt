@@ -74,23 +74,23 @@ caller_input own limit r sent some s true closed =
     let ps : List Piece = s.pieces in
     let ends : end_if r.closed ≡ end_of In ∷ [] = ap end_if closed in
     let stream : sent ++ r.waiting ≡ flat_map written (Hello own ∷ map message_of (ps ++ end_of In ∷ [])) = s.stream ∙ ap (λ e. flat_map written (Hello own ∷ map message_of (ps ++ e))) ends in
-    let whole : take r.laid r.input ≡ r.input = rw (s.done closed) (all_of r.input) in
+    let whole : take r.packed r.input ≡ r.input = rw (s.done closed) (all_of r.input) in
     (Hello own ∷ map message_of (ps ++ end_of In ∷ []), record { pieces = ps; each = s.each; all = s.all ∙ whole; is = refl }, (r.waiting, stream))
   where
     all_of : (xs : List ℕ) → take (length xs) xs ≡ xs
     all_of [] = refl
     all_of (x ∷ xs) = ap (λ r. x ∷ r) (all_of xs)
 caller_input own limit r sent some s false closed =
-    let rest : List Piece = single In (drop r.laid r.input) in
+    let rest : List Piece = single In (drop r.packed r.input) in
     let ps : List Piece = s.pieces in
     let none : ps ++ end_if r.closed ≡ ps = ap (λ b. ps ++ end_if b) closed ∙ append-nil ps in
     let stream : sent ++ r.waiting ≡ flat_map written (Hello own ∷ map message_of ps) = s.stream ∙ ap (λ e. flat_map written (Hello own ∷ map message_of e)) none in
-    let all : joined In (ps ++ rest) ≡ r.input = joined_append In ps rest ∙ ap (λ x. x ++ joined In rest) s.all ∙ ap (λ x. take r.laid r.input ++ x) (joined_single In (drop r.laid r.input) refl) ∙ take-append-drop r.laid r.input in
+    let all : joined In (ps ++ rest) ≡ r.input = joined_append In ps rest ∙ ap (λ x. x ++ joined In rest) s.all ∙ ap (λ x. take r.packed r.input ++ x) (joined_single In (drop r.packed r.input) refl) ∙ take-append-drop r.packed r.input in
     let messages : Hello own ∷ (map message_of ps ++ map message_of (rest ++ end_of In ∷ [])) ≡ Hello own ∷ map message_of ((ps ++ rest) ++ end_of In ∷ [])
     = ap (λ ms. Hello own ∷ ms) (sym (map_more ps (rest ++ end_of In ∷ [])) ∙ ap (map message_of) (sym (append_assoc ps rest (end_of In ∷ [])))) in
     let P : List Message → Type 0 = λ ms. IsPrefixOf sent (flat_map written ms) in (
       Hello own ∷ map message_of ((ps ++ rest) ++ end_of In ∷ []),
-      record { pieces = ps ++ rest; each = each_more is_input limit ps rest s.each (each_single is_input limit In refl some (drop r.laid r.input)); all = all; is = refl },
+      record { pieces = ps ++ rest; each = each_more is_input limit ps rest s.each (each_single is_input limit In refl some (drop r.packed r.input)); all = all; is = refl },
       subst P messages (begins_more sent r.waiting (Hello own ∷ map message_of ps) (map message_of (rest ++ end_of In ∷ [])) stream),
     )
 

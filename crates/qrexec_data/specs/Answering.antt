@@ -69,21 +69,21 @@ next_len version a output = min (min a.chunk (most version)) (length output)
 abbrev pub end_bytes : ℤ → List ℕ
 end_bytes code = written (Stdout []) ++ (written (Stderr []) ++ written (ExitCode code))
 
-abbrev pub laid_end : {S : Type 0} → Option ℤ → AnsweringState S → AnsweringState S
-laid_end None a = a
-laid_end (Some code) a = if a.closed then a else record a { closed = true; waiting = a.waiting ++ end_bytes code }
+abbrev pub packed_end : {S : Type 0} → Option ℤ → AnsweringState S → AnsweringState S
+packed_end None a = a
+packed_end (Some code) a = if a.closed then a else record a { closed = true; waiting = a.waiting ++ end_bytes code }
 
 -- the next bytes of the output, of the error output, or else the ends and the exit code, after what waits
-abbrev pub laid_next : {S : Type 0} → ℕ → AnsweringState S → AnsweringState S
-laid_next version a =
+abbrev pub packed_next : {S : Type 0} → ℕ → AnsweringState S → AnsweringState S
+packed_next version a =
     if nat_lt 0 (length a.out) then record a { out = drop (next_len version a a.out) a.out; waiting = a.waiting ++ written (Stdout (take (next_len version a a.out) a.out)) }
     else if nat_lt 0 (length a.err) then record a { err = drop (next_len version a a.err) a.err; waiting = a.waiting ++ written (Stderr (take (next_len version a a.err) a.err)) }
-    else laid_end a.code a
+    else packed_end a.code a
 
 -- the next message, if a version is agreed on and none waits
-abbrev pub laid_on : {S : Type 0} → Option ℕ → AnsweringState S → AnsweringState S
-laid_on None a = a
-laid_on (Some version) a = if length a.waiting == 0 then laid_next version a else a
+abbrev pub packed_on : {S : Type 0} → Option ℕ → AnsweringState S → AnsweringState S
+packed_on None a = a
+packed_on (Some version) a = if length a.waiting == 0 then packed_next version a else a
 
 -- this many of the bytes that wait have gone; after the very last byte the call is done
 abbrev pub done_if : {S : Type 0} → Option ℤ → AnsweringState S → AnsweringState S

@@ -9,7 +9,7 @@ use Rattle.qrexec_data.specs.declared.outcome.SessionFault.TheVariants as fault
 use Rattle.qrexec_data.specs.Seeing.{caller_use, sees_all, seen_by}
 use Rattle.qrexec_data.specs.Reading.{InboxState, unread, read_messages, IsAtMessage}
 use Rattle.qrexec_data.specs.Replies.{RepliesState, after_message, faulted, KnowsReplies}
-use Rattle.qrexec_data.specs.Requests.{RequestsState, laid_on, SendsRequests}
+use Rattle.qrexec_data.specs.Requests.{RequestsState, packed_on, SendsRequests}
 
 -- a caller: the bytes that it got, what it knows of them, and what it sends
 pub record CallerState : Type 0 where
@@ -43,10 +43,10 @@ pub record CallerStandsFor (c : CallerState) (sent : List ℕ) : Type 0 where
   pub read : HasRead c
   pub sends : SendsRequests c.replies.own c.replies.version c.requests sent
 
--- what `front` returns, and what it leaves: the next message is laid if there is no outcome
+-- what `front` returns, and what it leaves: the next message is packed if there is no outcome
 pub record LendsRequests (old new : CallerState) (piece : List ℕ) : Type 0 where
   pub piece_is : piece ≡ (if is_none old.replies.outcome then new.requests.waiting else [])
-  pub new_is : new ≡ record old { requests = if is_none old.replies.outcome then laid_on old.replies.version old.requests else old.requests }
+  pub new_is : new ≡ record old { requests = if is_none old.replies.outcome then packed_on old.replies.version old.requests else old.requests }
   pub stands : (sent : List ℕ) → CallerStandsFor old sent → CallerStandsFor new sent
 
 -- all that the caller sends has gone

@@ -17,7 +17,7 @@ use Rattle.qrexec_data.specs.Pieces.{In, Out, Err as Errors, Piece, message_of, 
 use Rattle.qrexec_data.specs.Seeing.{Seen, Undecided, Faulty, serving_use, sees_all, seen_by}
 use Rattle.qrexec_data.specs.Sending.{agreed_by, most}
 use Rattle.qrexec_data.specs.Reading.{InboxState, unread, read_messages, IsAtMessage}
-use Rattle.qrexec_data.specs.Answering.{AnsweringState, AnswersTo, faulted, laid_on}
+use Rattle.qrexec_data.specs.Answering.{AnsweringState, AnswersTo, faulted, packed_on}
 
 -- a side that serves: the bytes that it got, and what it makes of them
 pub record ServingState (S : Type 0) : Type 0 where
@@ -106,10 +106,10 @@ pub record ServingStandsFor {S : Type 0} (owes : S → List ℕ → Triple) (owe
   pub chunk : 0 < s.answering.chunk
   pub read : HasServed owes owed s sent
 
--- what `front` returns, and what it leaves: the next message is laid if there is no outcome
+-- what `front` returns, and what it leaves: the next message is packed if there is no outcome
 pub record LendsAnswers {S : Type 0} (owes : S → List ℕ → Triple) (old new : ServingState S) (piece : List ℕ) : Type 0 where
   pub piece_is : piece ≡ (if is_none old.answering.outcome then new.answering.waiting else [])
-  pub new_is : new ≡ record old { answering = if is_none old.answering.outcome then laid_on old.answering.version old.answering else old.answering }
+  pub new_is : new ≡ record old { answering = if is_none old.answering.outcome then packed_on old.answering.version old.answering else old.answering }
   pub stands : (owed : List ℕ → Triple) (sent : List ℕ) → ServingStandsFor owes owed old sent → ServingStandsFor owes owed new sent
 
 -- the bytes that waited still wait, before any others

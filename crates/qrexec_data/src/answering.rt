@@ -7,7 +7,7 @@ ghost use Rattle.qrexec_frame.specs.Messages.{written};
 ghost use Rattle.qrexec_frame.specs.declared.message.Message.TheVariants as message;
 ghost use Rattle.qrexec_hello.specs.Greeting.{greeting};
 ghost use Rattle.qrexec_data.specs.Reading.{IsByBytes};
-ghost use Rattle.qrexec_data.specs.Answering.{AnswersTo, FeedsOn, EndsOn, after_greeting, faulted, laid_next, laid_on, end_bytes, over_if, after_gone};
+ghost use Rattle.qrexec_data.specs.Answering.{AnswersTo, FeedsOn, EndsOn, after_greeting, faulted, packed_next, packed_on, end_bytes, over_if, after_gone};
 
 use crate::limit::most;
 use crate::outcome::{Outcome, SessionFault};
@@ -20,7 +20,7 @@ use std::marker::Model;
 use vchan_io::Memory;
 
 /// A service, the bytes that it gave and that no message carries yet, and the messages that wait to
-/// go. A message is laid only if no other waits.
+/// go. A message is packed only if no other waits.
 #[derive(Drop)]
 pub(crate) struct Answering<S: Service> {
     own: u32,
@@ -29,9 +29,9 @@ pub(crate) struct Answering<S: Service> {
     service: S,
     code: Option<i32>,
     out: Vec<u8>,
-    out_laid: usize,
+    out_packed: usize,
     err: Vec<u8>,
-    err_laid: usize,
+    err_packed: usize,
     closed: bool,
     waiting: Unsent,
     outcome: Option<Outcome>,
@@ -49,14 +49,14 @@ impl<S: Service> Model for Answering<S> {
       version = a.version;
       service = a.service;
       code = a.code;
-      out = drop a.out_laid a.out.items;
-      err = drop a.err_laid a.err.items;
+      out = drop a.out_packed a.out.items;
+      err = drop a.err_packed a.err.items;
       closed = a.closed;
       waiting = a.waiting;
       outcome = a.outcome;
     } };
 
-    ghost invariant = { λ a. (2 ≤ a.own) × (a.own ≤ 3) × (0 < a.chunk) × (a.chunk ≤ 65536) × (a.out_laid ≤ length a.out.items) × (a.err_laid ≤ length a.err.items) };
+    ghost invariant = { λ a. (2 ≤ a.own) × (a.own ≤ 3) × (0 < a.chunk) × (a.chunk ≤ 65536) × (a.out_packed ≤ length a.out.items) × (a.err_packed ≤ length a.err.items) };
 }
 
 impl<S: Service> Answering<S> {
@@ -73,9 +73,9 @@ impl<S: Service> Answering<S> {
             service,
             code: None,
             out: Vec::new(alloc),
-            out_laid: 0,
+            out_packed: 0,
             err: Vec::new(alloc),
-            err_laid: 0,
+            err_packed: 0,
             closed: false,
             waiting: Unsent::new(alloc),
             outcome: None,
@@ -177,42 +177,42 @@ impl<S: Service> Answering<S> {
     }
 
     /// Lays the next message of what the service gave, if none waits.
-    pub(crate) fn lay(&mut self) -> Result<(), Memory>
-        ensures { OnOk result (self.new ≡ laid_on self.old.version self.old) }
+    pub(crate) fn pack(&mut self) -> Result<(), Memory>
+        ensures { OnOk result (self.new ≡ packed_on self.old.version self.old) }
     {
         match self.version {
-            Some(version) if self.waiting.is_empty() => self.lay_next(version),
+            Some(version) if self.waiting.is_empty() => self.pack_next(version),
             _ => Ok(()),
         }
     }
 
-    fn lay_next(&mut self, version: u32) -> Result<(), Memory>
-        ensures { OnOk result (self.new ≡ laid_next version self.old) }
+    fn pack_next(&mut self, version: u32) -> Result<(), Memory>
+        ensures { OnOk result (self.new ≡ packed_next version self.old) }
     {
         let limit = self.chunk.min(most(version));
-        if self.out_laid < self.out.len() {
+        if self.out_packed < self.out.len() {
             let output = &mut self.out;
-            return lay_output(
+            return pack_output(
                 &mut self.waiting,
                 Kind::Stdout,
                 output,
-                &mut self.out_laid,
+                &mut self.out_packed,
                 limit,
             );
         }
-        if self.err_laid < self.err.len() {
+        if self.err_packed < self.err.len() {
             let output = &mut self.err;
-            return lay_output(
+            return pack_output(
                 &mut self.waiting,
                 Kind::Stderr,
                 output,
-                &mut self.err_laid,
+                &mut self.err_packed,
                 limit,
             );
         }
         match self.code {
             Some(code) if !self.closed => {
-                lay_end(&mut self.waiting, code)?;
+                pack_end(&mut self.waiting, code)?;
                 self.closed = true;
                 Ok(())
             }
@@ -256,32 +256,32 @@ impl<S: Service> Answering<S> {
 
 // Puts the next bytes of an output, at most as many as a message may carry, in a message after
 // those that wait.
-fn lay_output(
+fn pack_output(
     waiting: &mut Unsent,
     kind: Kind,
     output: &mut Vec<u8>,
-    laid: &mut usize,
+    packed: &mut usize,
     limit: usize,
 ) -> Result<(), Memory>
     requires kind { IsData kind }
-    requires within { laid.old ≤ vec_len output.old }
+    requires within { packed.old ≤ vec_len output.old }
     requires limit { limit ≤ 65536 }
-    ensures waiting { OnOk result (waiting.new ≡ waiting.old ++ written (made kind (take (min limit (length (drop laid.old output.old.items))) (drop laid.old output.old.items)))) }
-    ensures output { OnOk result (drop laid.new output.new.items ≡ drop (min limit (length (drop laid.old output.old.items))) (drop laid.old output.old.items)) }
-    ensures within { laid.new ≤ vec_len output.new }
+    ensures waiting { OnOk result (waiting.new ≡ waiting.old ++ written (made kind (take (min limit (length (drop packed.old output.old.items))) (drop packed.old output.old.items)))) }
+    ensures output { OnOk result (drop packed.new output.new.items ≡ drop (min limit (length (drop packed.old output.old.items))) (drop packed.old output.old.items)) }
+    ensures within { packed.new ≤ vec_len output.new }
 {
-    let len = limit.min(output.len() - *laid);
-    waiting.put_data(kind, &output[*laid..*laid + len])?;
-    *laid += len;
-    if *laid == output.len() {
+    let len = limit.min(output.len() - *packed);
+    waiting.put_data(kind, &output[*packed..*packed + len])?;
+    *packed += len;
+    if *packed == output.len() {
         output.clear();
-        *laid = 0;
+        *packed = 0;
     }
     Ok(())
 }
 
 // Puts the ends of both outputs and the exit code after the messages that wait.
-fn lay_end(waiting: &mut Unsent, code: i32) -> Result<(), Memory>
+fn pack_end(waiting: &mut Unsent, code: i32) -> Result<(), Memory>
     ensures { OnOk result (waiting.new ≡ waiting.old ++ end_bytes code) }
 {
     waiting.put_data(Kind::Stdout, &[])?;

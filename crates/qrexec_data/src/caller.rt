@@ -137,7 +137,7 @@ impl Caller {
             return Ok(&[]);
         }
         let version = self.replies.version();
-        self.requests.lay(version)?;
+        self.requests.pack(version)?;
         Ok(self.requests.waiting())
     }
 

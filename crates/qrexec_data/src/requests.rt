@@ -2,7 +2,7 @@
 ghost use Rattle.std.specs.Prelude.{◌≡◌, ◌+◌, ◌≤◌, ◌<◌, ◌++◌, [], false, length, drop, map, min, IfOk, OnOk, OnErr, Option};
 ghost use Rattle.qrexec_frame.specs.declared.message.Message.TheVariants as message;
 ghost use Rattle.qrexec_frame.specs.Messages.{written};
-ghost use Rattle.qrexec_data.specs.Requests.{laid_next, laid_on};
+ghost use Rattle.qrexec_data.specs.Requests.{packed_next, packed_on};
 ghost use Rattle.qrexec_data.specs.Sending.{most};
 
 use crate::limit::most;
@@ -12,13 +12,13 @@ use std::alloc::Global;
 use std::marker::Model;
 use vchan_io::Memory;
 
-/// The input of a call, and its messages that wait to go. A message is laid only if no other waits,
+/// The input of a call, and its messages that wait to go. A message is packed only if no other waits,
 /// so that a session needs no second copy of its input.
 #[derive(Debug, Drop)]
 pub(crate) struct Requests {
     chunk: usize,
     input: Vec<u8>,
-    laid: usize,
+    packed: usize,
     closed: bool,
     waiting: Unsent,
 }
@@ -32,12 +32,12 @@ impl Model for Requests {
     ghost view = { λ r. record {
       chunk = r.chunk;
       input = r.input.items;
-      laid = r.laid;
+      packed = r.packed;
       closed = r.closed;
       waiting = r.waiting;
     } };
 
-    ghost invariant = { λ r. (0 < r.chunk) × (r.chunk ≤ 65536) × (r.laid ≤ length r.input.items) };
+    ghost invariant = { λ r. (0 < r.chunk) × (r.chunk ≤ 65536) × (r.packed ≤ length r.input.items) };
 }
 
 impl Requests {
@@ -50,43 +50,43 @@ impl Requests {
     ) -> Result<Requests, Memory>
         requires own { (2 ≤ own) × (own ≤ 3) }
         requires chunk { (0 < chunk) × (chunk ≤ 65536) }
-        ensures { IfOk result (λ r. r ≡ record { chunk = chunk; input = input.items; laid = 0; closed = false; waiting = written (message.Hello own) }) }
+        ensures { IfOk result (λ r. r ≡ record { chunk = chunk; input = input.items; packed = 0; closed = false; waiting = written (message.Hello own) }) }
     {
         let mut waiting = Unsent::new(alloc);
         waiting.put_greeting(own)?;
         Ok(Requests {
             chunk: chunk as usize,
             input,
-            laid: 0,
+            packed: 0,
             closed: false,
             waiting,
         })
     }
 
     /// Lays the next message of the input, if none waits and a version is agreed on.
-    pub(crate) fn lay(&mut self, version: Option<u32>) -> Result<(), Memory>
-        ensures { OnOk result (self.new ≡ laid_on version self.old) }
+    pub(crate) fn pack(&mut self, version: Option<u32>) -> Result<(), Memory>
+        ensures { OnOk result (self.new ≡ packed_on version self.old) }
     {
         match version {
-            Some(version) if self.waiting.is_empty() => self.lay_next(version),
+            Some(version) if self.waiting.is_empty() => self.pack_next(version),
             _ => Ok(()),
         }
     }
 
-    fn lay_next(&mut self, version: u32) -> Result<(), Memory>
-        ensures { OnOk result (self.new ≡ laid_next version self.old) }
+    fn pack_next(&mut self, version: u32) -> Result<(), Memory>
+        ensures { OnOk result (self.new ≡ packed_next version self.old) }
     {
         if self.closed {
             return Ok(());
         }
-        if self.laid < self.input.len() {
+        if self.packed < self.input.len() {
             let len = self
                 .chunk
                 .min(most(version))
-                .min(self.input.len() - self.laid);
+                .min(self.input.len() - self.packed);
             self.waiting
-                .put_data(Kind::Stdin, &self.input[self.laid..self.laid + len])?;
-            self.laid += len;
+                .put_data(Kind::Stdin, &self.input[self.packed..self.packed + len])?;
+            self.packed += len;
         } else {
             self.waiting.put_data(Kind::Stdin, &[])?;
             self.closed = true;

@@ -138,7 +138,7 @@ impl<S: Service> Serving<S> {
         if self.answering.outcome().is_some() {
             return Ok(&[]);
         }
-        self.answering.lay()?;
+        self.answering.pack()?;
         Ok(self.answering.waiting())
     }
 

@@ -15,15 +15,15 @@ use Rattle.ring_words.specs.declared.page.WordName.TheVariants.{RingByte}
 use Rattle.ring_words.specs.Page.{index_of, order_of, word_count}
 use Rattle.ring_words.specs.PageWords.{PageWords}
 use Rattle.ring_words.specs.Rings.{number_of, size}
-use Rattle.ring_words.specs.Image.{Field, Piece, bytes_piece, byte_at, byte_of, field_piece, fields, header_shown, image_of, number_from, number_piece, page_shown, pieces, ring_offset, ring_pieces, ring_shown, word_of, AreWithinPage, IsCovered, IsShown, Lays}
-use Rattle.ring_words.proofs.PieceLaws.{covered_append, same_piece, Agrees, AllAgree, AllAgree_append, byte_at_agrees, covered_between, covered_first, covered_second, apart_at, begin_from, covered_below, end_by, get_or_list_by, lay_more, lay_nothing, length_list_by, same_list_by}
+use Rattle.ring_words.specs.Image.{Field, Piece, bytes_piece, byte_at, byte_of, field_piece, fields, header_shown, image_of, number_from, number_piece, page_shown, pieces, ring_offset, ring_pieces, ring_shown, word_of, AreWithinPage, IsCovered, IsShown, Puts}
+use Rattle.ring_words.proofs.PieceLaws.{covered_append, same_piece, Agrees, AllAgree, AllAgree_append, byte_at_agrees, covered_between, covered_first, covered_second, apart_at, begin_from, covered_below, end_by, get_or_list_by, puts_more, puts_nothing, length_list_by, same_list_by}
 
--- a field laid after others
-pub lay_field : (page : PageWords) (field : Field) {word : ℕ} {ps : List Piece} {old mid new : List ℕ} → Lays ps old mid → Lays (number_piece field.offset field.bytes word ∷ []) mid new → word ≡ word_of page field.name → end_by ps field.offset ≡ true → Lays (ps ++ field_piece page field ∷ []) old new
-lay_field page field {word} {ps} {old} {mid} {new} first second e ends =
+-- a field put after others
+pub puts_field : (page : PageWords) (field : Field) {word : ℕ} {ps : List Piece} {old mid new : List ℕ} → Puts ps old mid → Puts (number_piece field.offset field.bytes word ∷ []) mid new → word ≡ word_of page field.name → end_by ps field.offset ≡ true → Puts (ps ++ field_piece page field ∷ []) old new
+puts_field page field {word} {ps} {old} {mid} {new} first second e ends =
     let begins : begin_from (field_piece page field ∷ []) field.offset ≡ true = and_from (nat_le field.offset field.offset) true (le-leb field.offset field.offset (omega arith)) refl in
-    lay_more ps (field_piece page field ∷ []) old mid new (apart_at ps (field_piece page field ∷ []) field.offset ends begins) first
-    (subst (λ (n : ℕ). Lays (number_piece field.offset field.bytes n ∷ []) mid new) e second)
+    puts_more ps (field_piece page field ∷ []) old mid new (apart_at ps (field_piece page field ∷ []) field.offset ends begins) first
+    (subst (λ (n : ℕ). Puts (number_piece field.offset field.bytes n ∷ []) mid new) e second)
 
 -- ---- where rings lie
 
@@ -113,10 +113,10 @@ covered_within page at h = go (covered_append (header_pieces page ++ ring_pieces
     go (inl k) = of_rest (covered_append (header_pieces page) (ring_pieces page Left) at k)
     go (inr k) = of_ring Right (in_ring page Right at k)
 
--- a header and two rings laid over zeros are the image
-pub image_laid : (page : PageWords) (zeros header left new : List ℕ) → length new ≡ 4096 → ((at : ℕ) → get_or zeros at 0 ≡ 0) → Lays (header_pieces page) zeros header → Lays (ring_pieces page Left) header left → Lays (ring_pieces page Right) left new → new ≡ image_of page
+-- a header and two rings put over zeros are the image
+pub image_put : (page : PageWords) (zeros header left new : List ℕ) → length new ≡ 4096 → ((at : ℕ) → get_or zeros at 0 ≡ 0) → Puts (header_pieces page) zeros header → Puts (ring_pieces page Left) header left → Puts (ring_pieces page Right) left new → new ≡ image_of page
 unfolding image_of
-image_laid page zeros header left new long blank one two three =
+image_put page zeros header left new long blank one two three =
     same_list_by (λ at. byte_at (pieces page) at 0) new 4096 long
     (λ at h. all.bytes at ∙ ap (λ (n : ℕ). byte_at (pieces page) at n) (blank at))
   where
@@ -130,10 +130,10 @@ image_laid page zeros header left new long blank one two three =
         go (inl l) = omega (arith, covered_below (header_pieces page) 24 at refl l, ring_behind page Right at k)
         go (inr l) = rings_apart page at l k
 
-    all : Lays (pieces page) zeros new
+    all : Puts (pieces page) zeros new
     all =
-        lay_more (header_pieces page ++ ring_pieces page Left) (ring_pieces page Right) zeros left new before_right
-        (lay_more (header_pieces page) (ring_pieces page Left) zeros header left before_left one two) three
+        puts_more (header_pieces page ++ ring_pieces page Left) (ring_pieces page Right) zeros left new before_right
+        (puts_more (header_pieces page) (ring_pieces page Left) zeros header left before_left one two) three
 
 -- a ring's bytes follow its first one
 pub index_of_byte : (orders : Orders) (ring : Ring) (k : ℕ) → index_of orders (RingByte ring k) ≡ index_of orders (RingByte ring 0) + k
@@ -145,11 +145,11 @@ ring_within : (orders : Orders) (ring : Ring) → index_of orders (RingByte ring
 ring_within orders Left = omega arith
 ring_within orders Right = omega arith
 
--- a ring laid at its place in the page
-pub lay_ring : (page : PageWords) (ring : Ring) (offset first : ℕ) (words old new : List ℕ) → length page.list ≡ word_count page.orders → ring_offset (order_of page.orders ring) ≡ Some offset → first ≡ index_of page.orders (RingByte ring 0) → words ≡ between first (first + size (order_of page.orders ring)) page.list → Lays (bytes_piece offset words ∷ []) old new → Lays (ring_pieces page ring) old new
-lay_ring page ring offset first words old new long e f is laid =
-    subst (λ (ps : List Piece). Lays ps old new) (sym (ring_pieces_at page ring offset e))
-    (same_piece (bytes_piece offset words) (ring_piece page ring offset) old new refl count byte laid)
+-- a ring put at its place in the page
+pub puts_ring : (page : PageWords) (ring : Ring) (offset first : ℕ) (words old new : List ℕ) → length page.list ≡ word_count page.orders → ring_offset (order_of page.orders ring) ≡ Some offset → first ≡ index_of page.orders (RingByte ring 0) → words ≡ between first (first + size (order_of page.orders ring)) page.list → Puts (bytes_piece offset words ∷ []) old new → Puts (ring_pieces page ring) old new
+puts_ring page ring offset first words old new long e f is put =
+    subst (λ (ps : List Piece). Puts ps old new) (sym (ring_pieces_at page ring offset e))
+    (same_piece (bytes_piece offset words) (ring_piece page ring offset) old new refl count byte put)
   where
     count : length words ≡ size (order_of page.orders ring)
     count = ap length is ∙ length-between page.list first (first + size (order_of page.orders ring)) (omega (arith, ring_within page.orders ring, f, long)) ∙ omega arith
@@ -158,13 +158,13 @@ lay_ring page ring offset first words old new long e f is laid =
     byte k h = ap (λ (n : ℕ). byte_of n 0) (ap (λ (l : List ℕ). get_or l k 0) is ∙ get_or-between page.list first (first + size (order_of page.orders ring)) k 0 (omega (arith, h)) ∙ ap (λ (i : ℕ). get_or page.list i 0) (omega (arith, f, index_of_byte page.orders ring k)))
 
 -- a ring that doesn't lie in the page
-pub lay_no_ring : (page : PageWords) (ring : Ring) (old : List ℕ) → ((offset : ℕ) → ring_offset (order_of page.orders ring) ≡ Some offset → ⊥) → Lays (ring_pieces page ring) old old
-lay_no_ring page ring old not = go (placed (order_of page.orders ring))
+pub puts_no_ring : (page : PageWords) (ring : Ring) (old : List ℕ) → ((offset : ℕ) → ring_offset (order_of page.orders ring) ≡ Some offset → ⊥) → Puts (ring_pieces page ring) old old
+puts_no_ring page ring old not = go (placed (order_of page.orders ring))
   where
-    go : Placed (order_of page.orders ring) → Lays (ring_pieces page ring) old old
+    go : Placed (order_of page.orders ring) → Puts (ring_pieces page ring) old old
     go (small _ e _) = absurd (not 1024 e)
     go (large _ e _) = absurd (not 2048 e)
-    go (away _ e) = subst (λ (ps : List Piece). Lays ps old old) (sym (ring_pieces_none page ring e)) (lay_nothing old)
+    go (away _ e) = subst (λ (ps : List Piece). Puts ps old old) (sym (ring_pieces_none page ring e)) (puts_nothing old)
 
 -- ---- what an image shows, and its image again
 

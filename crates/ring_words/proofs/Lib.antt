@@ -4,5 +4,5 @@ pub mod PieceLaws
 pub mod ByteLaws
 pub mod ChoiceLaws
 pub mod ImageLaws
-pub mod LaidLaws
+pub mod OverwrittenLaws
 pub mod OrderLaws

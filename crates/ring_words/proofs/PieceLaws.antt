@@ -1,4 +1,4 @@
--- Laws of pieces: bytes laid over others, piece by piece.
+-- Laws of pieces: bytes put over others, piece by piece.
 use Rattle.std.proofs.Common.{◌≡◌, ℕ, ◌+◌, ◌-◌, ◌<◌, ◌≤◌, zero, suc, replicate, ◌⊎◌, inl, inr, Bool, true, false, ◌&&◌, List, [], ◌∷◌, ◌++◌, length, get_or, refl, sym, ap, ◌∙◌, arith}
 use Rattle.std.specs.Prelude.{nat_le, nat_lt, ◌==◌, if◌then◌else◌}
 use Rattle.std.proofs.lemmas.Bool.{eqb-true, cases_Bool, cases_lt, false≢true, and_parts, leb-true}
@@ -6,7 +6,7 @@ use Rattle.std.proofs.lemmas.Bool.Decides.{nat_tests}
 use Rattle.std.proofs.lemmas.List.{places}
 use Rattle.std.proofs.lemmas.List.FromFn.{fill_by_all, get_or-map-range_with_len, length-map-range_with_len}
 use borrow.Rule.Slice.PartMut.{put_mid}
-use Rattle.ring_words.specs.Image.{Piece, covers, byte_at, list_by, IsCovered, Lays}
+use Rattle.ring_words.specs.Image.{Piece, covers, byte_at, list_by, IsCovered, Puts}
 
 -- ---- a list told place by place
 
@@ -66,10 +66,10 @@ standing (p ∷ ps) at = go (standing ps at) (cases_Bool (covers p at))
     go (covered h) (inr e) = covered (inr h)
     go (bare b) (inr e) = bare (λ before. byte_at_others p ps at before e ∙ b before)
 
--- one piece laid, byte by byte
-pub lay_one : (p : Piece) (old new : List ℕ) → length new ≡ length old → ((k : ℕ) → k < p.count → get_or new (p.offset + k) 0 ≡ p.byte k) → ((at : ℕ) → (at < p.offset) ⊎ (p.offset + p.count ≤ at) → get_or new at 0 ≡ get_or old at 0) → Lays (p ∷ []) old new
+-- one piece put, byte by byte
+pub puts_one : (p : Piece) (old new : List ℕ) → length new ≡ length old → ((k : ℕ) → k < p.count → get_or new (p.offset + k) 0 ≡ p.byte k) → ((at : ℕ) → (at < p.offset) ⊎ (p.offset + p.count ≤ at) → get_or new at 0 ≡ get_or old at 0) → Puts (p ∷ []) old new
 unfolding byte_at
-lay_one p old new e inside outside = record { same_length = e; bytes = λ at. go at (cases_Bool (covers p at)) }
+puts_one p old new e inside outside = record { same_length = e; bytes = λ at. go at (cases_Bool (covers p at)) }
   where
     go : (at : ℕ) → (covers p at ≡ true) ⊎ (covers p at ≡ false) → get_or new at 0 ≡ byte_at (p ∷ []) at (get_or old at 0)
     go at (inl t) =
@@ -79,9 +79,9 @@ lay_one p old new e inside outside = record { same_length = e; bytes = λ at. go
     go at (inr f) = outside at (covers_denies p at f) ∙ sym (byte_at_others p [] at (get_or old at 0) f)
 
 -- a part of a list written over
-pub lay_part : (p : Piece) (xs ys : List ℕ) (width : ℕ) → p.offset + p.count ≤ length xs → length ys ≡ p.count → width ≡ p.count → ((k : ℕ) → k < p.count → get_or ys k 0 ≡ p.byte k) → Lays (p ∷ []) xs (put_mid p.offset width xs ys)
-lay_part p xs ys width h e w inside =
-    lay_one p xs (put_mid p.offset width xs ys) (grind (arith, places)) (λ k l. grind (arith, places, inside k l)) (λ at o. grind (arith, places))
+pub puts_part : (p : Piece) (xs ys : List ℕ) (width : ℕ) → p.offset + p.count ≤ length xs → length ys ≡ p.count → width ≡ p.count → ((k : ℕ) → k < p.count → get_or ys k 0 ≡ p.byte k) → Puts (p ∷ []) xs (put_mid p.offset width xs ys)
+puts_part p xs ys width h e w inside =
+    puts_one p xs (put_mid p.offset width xs ys) (grind (arith, places)) (λ k l. grind (arith, places, inside k l)) (λ at o. grind (arith, places))
 
 -- what was there before doesn't matter if a piece has the byte
 byte_at_covered : (ps : List Piece) (at before other : ℕ) → IsCovered ps at → byte_at ps at before ≡ byte_at ps at other
@@ -99,9 +99,9 @@ unfolding byte_at
 byte_at_append [] qs at before = refl
 byte_at_append (p ∷ ps) qs at before = ap (λ (other : ℕ). if covers p at then p.byte (at - p.offset) else other) (byte_at_append ps qs at before)
 
--- pieces laid after others that are apart from them
-pub lay_more : (ps qs : List Piece) (old mid new : List ℕ) → ((at : ℕ) → IsCovered ps at → IsCovered qs at → ⊥) → Lays ps old mid → Lays qs mid new → Lays (ps ++ qs) old new
-lay_more ps qs old mid new apart first second = record {
+-- pieces put after others that are apart from them
+pub puts_more : (ps qs : List Piece) (old mid new : List ℕ) → ((at : ℕ) → IsCovered ps at → IsCovered qs at → ⊥) → Puts ps old mid → Puts qs mid new → Puts (ps ++ qs) old new
+puts_more ps qs old mid new apart first second = record {
   same_length = second.same_length ∙ first.same_length;
   bytes = λ at. go at (standing ps at) (standing qs at) (get_or old at 0) (first.bytes at) (second.bytes at) ∙ sym (byte_at_append ps qs at (get_or old at 0));
 }
@@ -111,10 +111,10 @@ lay_more ps qs old mid new apart first second = record {
     go at (covered h) (bare b) before e f = f ∙ b (get_or mid at 0) ∙ e ∙ byte_at_covered ps at before (byte_at qs at before) h
     go at (bare b) _ before e f = f ∙ ap (λ (x : ℕ). byte_at qs at x) (e ∙ b before) ∙ sym (b (byte_at qs at before))
 
--- nothing laid
-pub lay_nothing : (old : List ℕ) → Lays [] old old
+-- nothing put
+pub puts_nothing : (old : List ℕ) → Puts [] old old
 unfolding byte_at
-lay_nothing old = record { same_length = refl; bytes = λ at. refl }
+puts_nothing old = record { same_length = refl; bytes = λ at. refl }
 
 -- all pieces end at a place or before it; none begins before a place
 abbrev pub end_by : List Piece → ℕ → Bool
@@ -157,8 +157,8 @@ covered_append (p ∷ ps) qs at (inr h) = go (covered_append ps qs at h)
     go (inr k) = inr k
 
 -- a piece with the same bytes in another form
-pub same_piece : (p q : Piece) (old new : List ℕ) → p.offset ≡ q.offset → p.count ≡ q.count → ((k : ℕ) → k < q.count → p.byte k ≡ q.byte k) → Lays (p ∷ []) old new → Lays (q ∷ []) old new
-same_piece p q old new o n same laid = record { same_length = laid.same_length; bytes = λ at. laid.bytes at ∙ go at (cases_Bool (covers q at)) }
+pub same_piece : (p q : Piece) (old new : List ℕ) → p.offset ≡ q.offset → p.count ≡ q.count → ((k : ℕ) → k < q.count → p.byte k ≡ q.byte k) → Puts (p ∷ []) old new → Puts (q ∷ []) old new
+same_piece p q old new o n same put = record { same_length = put.same_length; bytes = λ at. put.bytes at ∙ go at (cases_Bool (covers q at)) }
   where
     test : (at : ℕ) → covers p at ≡ covers q at
     test at = ap (λ (w : ℕ). nat_le w at && nat_lt at (w + p.count)) o ∙ ap (λ (w : ℕ). nat_le q.offset at && nat_lt at (q.offset + w)) n

@@ -108,8 +108,8 @@ list_by value count = map value (range_with_len 0 count)
 unfoldable pub image_of : PageWords → List ℕ
 image_of page = list_by (λ at. byte_at (pieces page) at 0) 4096
 
--- the new bytes are the old ones with these pieces laid over them
-pub record Lays (pieces : List Piece) (old new : List ℕ) : Type 0 where
+-- the new bytes are the old ones with these pieces put over them
+pub record Puts (pieces : List Piece) (old new : List ℕ) : Type 0 where
   pub same_length : length new ≡ length old
   pub bytes : (at : ℕ) → slice_index new at ≡ byte_at pieces at (slice_index old at)
 

@@ -2,5 +2,5 @@ pub mod Rings
 pub mod Page
 pub mod Choice
 pub mod PageWords
-pub mod Laid
+pub mod Overwritten
 pub mod Image

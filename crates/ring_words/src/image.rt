@@ -3,7 +3,7 @@
 //! libxenvchan's `init.c`.
 ghost use Rattle.std.specs.Prelude.{◌≡◌, ◌+◌, ◌*◌, ◌≤◌, ◌<◌, ◌++◌, ◌⊎◌, ◌↔◌, ◌∷◌, [], ℕ, length, map, slice_index, slice_range, IfErr, IfOk, IfSome, OnOk, IsErrAnd};
 ghost use Rattle.ring_words.specs.Choice.{AreBadOrders};
-ghost use Rattle.ring_words.specs.Image.{AreNamed, AreWithinPage, IsBadOrders, IsShown, Lays, bytes_piece, field_piece, fields, header_shown, image_of, left_order, number_from, number_piece, page_shown, right_order, ring_offset as offset_of_ring, ring_pieces, ring_shown, shown};
+ghost use Rattle.ring_words.specs.Image.{AreNamed, AreWithinPage, IsBadOrders, IsShown, Puts, bytes_piece, field_piece, fields, header_shown, image_of, left_order, number_from, number_piece, page_shown, right_order, ring_offset as offset_of_ring, ring_pieces, ring_shown, shown};
 ghost use Rattle.ring_words.specs.Rings.{number_of, size};
 
 use crate::choice::{self, check_orders};
@@ -74,7 +74,7 @@ pub fn page_image(words: &Words) -> [u8; PAGE_SIZE]
 
 /// Puts the fields that lie before the grant list.
 fn put_header(image: &mut [u8; PAGE_SIZE], words: &Words)
-    ensures { Lays (map (field_piece words.now) fields) image.old image.new }
+    ensures { Puts (map (field_piece words.now) fields) image.old image.new }
 {
     put_field(image, 0, 4, words.load(WordName::LeftCons));
     put_field(image, 4, 4, words.load(WordName::LeftProd));
@@ -92,14 +92,14 @@ fn put_header(image: &mut [u8; PAGE_SIZE], words: &Words)
 fn put_field(image: &mut [u8; PAGE_SIZE], offset: usize, bytes: usize, word: u64)
     requires within { offset + bytes ≤ 4096 }
     requires of_word { bytes ≤ 8 }
-    ensures { Lays (number_piece offset bytes word ∷ []) image.old image.new }
+    ensures { Puts (number_piece offset bytes word ∷ []) image.old image.new }
 {
     image[offset..offset + bytes].copy_from_slice(&word.to_le_bytes()[..bytes]);
 }
 
 /// Puts a ring at its place, if it lies in the page.
 fn put_ring(image: &mut [u8; PAGE_SIZE], words: &Words, ring: Ring)
-    ensures { Lays (ring_pieces words.now ring) image.old image.new }
+    ensures { Puts (ring_pieces words.now ring) image.old image.new }
 {
     let layout = Layout::new(words.orders());
     let order = layout.orders.order_of(ring);
@@ -117,7 +117,7 @@ fn put_ring(image: &mut [u8; PAGE_SIZE], words: &Words, ring: Ring)
 /// Puts the low byte of each word, from an offset on.
 fn put_bytes(image: &mut [u8; PAGE_SIZE], offset: usize, words: &[u64])
     requires { offset + length words.now ≤ 4096 }
-    ensures { Lays (bytes_piece offset words.now ∷ []) image.old image.new }
+    ensures { Puts (bytes_piece offset words.now ∷ []) image.old image.new }
 {
     for (at, word) in words.iter().enumerate() {
         image[offset + at] = (*word & 0xff) as u8;

@@ -2,7 +2,7 @@
 ghost use Rattle.std.specs.Prelude.{◌≡◌, ◌<◌, ◌≤◌, ◌+◌, ◌^◌, length, slice_index, slice_set, vec_len};
 ghost use Rattle.ring_words.specs.Page.{Has, index_of, order_of, word_count};
 ghost use Rattle.ring_words.specs.Rings.{size};
-ghost use Rattle.ring_words.specs.Laid.{laid, low_bytes};
+ghost use Rattle.ring_words.specs.Overwritten.{overwritten, low_bytes};
 ghost use Rattle.ring_words.specs.declared.page.WordName.TheVariants.{RingByte};
 
 use crate::layout::Layout;
@@ -83,7 +83,7 @@ impl Words {
     pub fn store_bytes(&mut self, ring: Ring, at: u32, bytes: &[u8])
         requires first { at < size (order_of self.old.orders ring) }
         requires last { at + length bytes.now ≤ size (order_of self.old.orders ring) }
-        ensures words { self.new ≡ record self.old { list = laid self.old.list (index_of self.old.orders (RingByte ring at)) bytes.now } }
+        ensures words { self.new ≡ record self.old { list = overwritten self.old.list (index_of self.old.orders (RingByte ring at)) bytes.now } }
         ensures count { length self.new.list ≡ word_count self.new.orders }
     {
         let first = Layout::new(self.orders).word(WordName::RingByte { ring, at });

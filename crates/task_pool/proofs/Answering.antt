@@ -38,19 +38,19 @@ module _ {T D : Type 0} (owes : T → D → Type 0) where
   abbrev pub IsAnswered : T → Option D → Type 0
   IsAnswered first answer = (done : D) × (answer ≡ Some done) × owes first done
 
-  from_places : (laid : List T) (answers : List (Option D)) → length answers ≡ length laid
-      → ((k : ℕ) (first : T) (answer : Option D) → slice_get laid k ≡ Some first → slice_get answers k ≡ Some answer → IsAnswered first answer) → AllZip IsAnswered laid answers
+  from_places : (enqueued : List T) (answers : List (Option D)) → length answers ≡ length enqueued
+      → ((k : ℕ) (first : T) (answer : Option D) → slice_get enqueued k ≡ Some first → slice_get answers k ≡ Some answer → IsAnswered first answer) → AllZip IsAnswered enqueued answers
   from_places [] [] size each = tt
   from_places [] (a ∷ answers) size each = absurd (omega arith)
-  from_places (t ∷ laid) [] size each = absurd (omega arith)
-  from_places (t ∷ laid) (a ∷ answers) size each = (each 0 t a refl refl, from_places laid answers (omega arith) (λ k. each (suc k)))
+  from_places (t ∷ enqueued) [] size each = absurd (omega arith)
+  from_places (t ∷ enqueued) (a ∷ answers) size each = (each 0 t a refl refl, from_places enqueued answers (omega arith) (λ k. each (suc k)))
 
   -- each place has its answer
-  pub all_answered : (laid : List T) (kept : List (ℕ × T)) (answers : List (Option D)) → Settled owes laid kept answers → IsWhole laid kept → AllZip IsAnswered laid answers
-  all_answered laid kept answers settled whole = from_places laid answers settled.size (λ k first answer at at'.
-      let lt : k < length laid = slice_get_within laid k first at in
+  pub all_answered : (enqueued : List T) (kept : List (ℕ × T)) (answers : List (Option D)) → Settled owes enqueued kept answers → IsWhole enqueued kept → AllZip IsAnswered enqueued answers
+  all_answered enqueued kept answers settled whole = from_places enqueued answers settled.size (λ k first answer at at'.
+      let lt : k < length enqueued = slice_get_within enqueued k first at in
       let weight = whole (at_place k) in
-      let more = below_place k (length laid) lt in
+      let more = below_place k (length enqueued) lt in
       let filled = kept_place (λ j. (done : D) × (slice_get answers j ≡ Some (Some done))) k kept (omega arith) settled.filled in
       let owed = settled.owed k filled.0 filled.1 in
       let same : answer ≡ Some filled.0 = let two = filled.1 in cc in
@@ -58,27 +58,27 @@ module _ {T D : Type 0} (owes : T → D → Type 0) where
       (filled.0, same, subst (λ t. owes t filled.0) task owed.2))
 
   -- the first tasks have these answers, and the others go with the answers that are left
-  pub record Answering (laid : List T) (left : List (Option D)) (dones : List D) : Type 0 where
+  pub record Answering (enqueued : List T) (left : List (Option D)) (dones : List D) : Type 0 where
     pub before : List T
     pub after : List T
-    pub split : laid ≡ before ++ after
+    pub split : enqueued ≡ before ++ after
     pub paid : AllZip owes before dones
     pub owing : AllZip IsAnswered after left
 
-  pub answering_begins : (laid : List T) (answers : List (Option D)) → AllZip IsAnswered laid answers → Answering laid answers []
-  answering_begins laid answers all = record { before = []; after = laid; split = refl; paid = tt; owing = all }
+  pub answering_begins : (enqueued : List T) (answers : List (Option D)) → AllZip IsAnswered enqueued answers → Answering enqueued answers []
+  answering_begins enqueued answers all = record { before = []; after = enqueued; split = refl; paid = tt; owing = all }
 
-  pub answering_none : (laid : List T) (left : List (Option D)) (dones : List D) → Answering laid (None ∷ left) dones → ⊥
-  answering_none laid left dones s = go s.after s.owing
+  pub answering_none : (enqueued : List T) (left : List (Option D)) (dones : List D) → Answering enqueued (None ∷ left) dones → ⊥
+  answering_none enqueued left dones s = go s.after s.owing
     where
       go : (after : List T) → AllZip IsAnswered after (None ∷ left) → ⊥
       go [] owing = owing
       go (t ∷ after) owing = let none = owing.0.1 in cc
 
-  pub answering_more : (laid : List T) (done : D) (left : List (Option D)) (dones : List D) → Answering laid (Some done ∷ left) dones → Answering laid left (dones ++ done ∷ [])
-  answering_more laid done left dones s = go s.after s.split s.owing
+  pub answering_more : (enqueued : List T) (done : D) (left : List (Option D)) (dones : List D) → Answering enqueued (Some done ∷ left) dones → Answering enqueued left (dones ++ done ∷ [])
+  answering_more enqueued done left dones s = go s.after s.split s.owing
     where
-      go : (after : List T) → laid ≡ s.before ++ after → AllZip IsAnswered after (Some done ∷ left) → Answering laid left (dones ++ done ∷ [])
+      go : (after : List T) → enqueued ≡ s.before ++ after → AllZip IsAnswered after (Some done ∷ left) → Answering enqueued left (dones ++ done ∷ [])
       go [] split owing = absurd owing
       go (t ∷ after) split owing =
           let same : owing.0.0 ≡ done = let e = owing.0.1 in cc in
@@ -90,9 +90,9 @@ module _ {T D : Type 0} (owes : T → D → Type 0) where
             owing = owing.1;
           }
 
-  pub answering_ends : (laid : List T) (dones : List D) → Answering laid [] dones → AllZip owes laid dones
-  answering_ends laid dones s = go s.after s.split s.owing
+  pub answering_ends : (enqueued : List T) (dones : List D) → Answering enqueued [] dones → AllZip owes enqueued dones
+  answering_ends enqueued dones s = go s.after s.split s.owing
     where
-      go : (after : List T) → laid ≡ s.before ++ after → AllZip IsAnswered after [] → AllZip owes laid dones
+      go : (after : List T) → enqueued ≡ s.before ++ after → AllZip IsAnswered after [] → AllZip owes enqueued dones
       go [] split owing = subst (λ l. AllZip owes l dones) (sym (split ∙ append-nil s.before)) s.paid
       go (t ∷ after) split owing = absurd owing

@@ -8,17 +8,17 @@ use Rattle.task_pool.specs.declared.waiting.Finished.{Finished}
 use Rattle.task_pool.specs.Results.{IsPaid, Ends, Keeps}
 
 module _ {T D : Type 0} (owes : T → D → Type 0) where
-  pub keeps_more : (laid : List T) (finished : List (Finished D)) (f : Finished D) (v w : Holding T) → Keeps owes laid finished v → Ends owes v f w → Keeps owes laid (finished ++ f ∷ []) w
-  keeps_more laid finished f v w keeps ends = record {
+  pub keeps_more : (enqueued : List T) (finished : List (Finished D)) (f : Finished D) (v w : Holding T) → Keeps owes enqueued finished v → Ends owes v f w → Keeps owes enqueued (finished ++ f ∷ []) w
+  keeps_more enqueued finished f v w keeps ends = record {
     part = ap (λ (y : Holding T). y.parts) ends.keeps ∙ keeps.part;
-    knows = ap (λ (y : Holding T). y.laid) ends.keeps ∙ keeps.knows;
-    paid = subst (λ l. AllZip (IsPaid owes laid) l (finished ++ f ∷ [])) (sym (ap (λ (y : Holding T). y.kept) ends.keeps))
-        (pairs_append (IsPaid owes laid) v.kept ((f.place, ends.first) ∷ []) finished (f ∷ []) keeps.paid (subst (λ l. IsPaid owes l (f.place, ends.first) f) keeps.knows ends.paid, tt));
+    knows = ap (λ (y : Holding T). y.enqueued) ends.keeps ∙ keeps.knows;
+    paid = subst (λ l. AllZip (IsPaid owes enqueued) l (finished ++ f ∷ [])) (sym (ap (λ (y : Holding T). y.kept) ends.keeps))
+        (pairs_append (IsPaid owes enqueued) v.kept ((f.place, ends.first) ∷ []) finished (f ∷ []) keeps.paid (subst (λ l. IsPaid owes l (f.place, ends.first) f) keeps.knows ends.paid, tt));
   }
 
-  pub keeps_room : (laid : List T) (finished : List (Finished D)) (f : Finished D) (v w : Holding T) → Keeps owes laid finished v → Ends owes v f w → length finished < length laid
-  keeps_room laid finished f v w keeps ends =
+  pub keeps_room : (enqueued : List T) (finished : List (Finished D)) (f : Finished D) (v w : Holding T) → Keeps owes enqueued finished v → Ends owes v f w → length finished < length enqueued
+  keeps_room enqueued finished f v w keeps ends =
       let room = ends.room in
-      let same : length v.laid ≡ length laid = ap length keeps.knows in
-      let long = AllZip-long (IsPaid owes laid) v.kept finished keeps.paid in
+      let same : length v.enqueued ≡ length enqueued = ap length keeps.knows in
+      let long = AllZip-long (IsPaid owes enqueued) v.kept finished keeps.paid in
       omega arith

@@ -26,13 +26,13 @@ length_blank zero x = refl
 length_blank (suc n) x = omega (arith, length_blank n x)
 
 module _ {T D : Type 0} (owes : T → D → Type 0) where
-  pub settled_none : (laid : List T) (n : ℕ) → n ≡ length laid → Settled owes laid [] (replicate n None)
-  settled_none laid n e = record { size = length_blank n None ∙ e; owed = λ k done at. (let x : None ≡ Some done = blank_at n k None (Some done) at in cc); filled = tt }
+  pub settled_none : (enqueued : List T) (n : ℕ) → n ≡ length enqueued → Settled owes enqueued [] (replicate n None)
+  settled_none enqueued n e = record { size = length_blank n None ∙ e; owed = λ k done at. (let x : None ≡ Some done = blank_at n k None (Some done) at in cc); filled = tt }
 
-  pub settled_more : (laid : List T) (kept : List (ℕ × T)) (answers : List (Option D)) (e : ℕ × T) (f : Finished D) → Settled owes laid kept answers → IsPaid owes laid e f
-      → Settled owes laid (kept ++ e ∷ []) (set answers f.place (Some f.done))
-  settled_more laid kept answers e f settled paid =
-      let inside : e.0 < length laid = slice_get_within laid e.0 e.1 paid.1 in
+  pub settled_more : (enqueued : List T) (kept : List (ℕ × T)) (answers : List (Option D)) (e : ℕ × T) (f : Finished D) → Settled owes enqueued kept answers → IsPaid owes enqueued e f
+      → Settled owes enqueued (kept ++ e ∷ []) (set answers f.place (Some f.done))
+  settled_more enqueued kept answers e f settled paid =
+      let inside : e.0 < length enqueued = slice_get_within enqueued e.0 e.1 paid.1 in
       let place : f.place ≡ e.0 = paid.0 in
       let size = settled.size in
       let lt : f.place < length answers = omega arith in
@@ -41,7 +41,7 @@ module _ {T D : Type 0} (owes : T → D → Type 0) where
         owed = λ k done at. ⊎_elim
             (λ (here : (k ≡ f.place) × (slice_get (set answers f.place (Some f.done)) k ≡ Some (Some f.done))).
             let same : f.done ≡ done = let two = here.1 in cc in
-            (e.1, ap (slice_get laid) (here.0 ∙ paid.0) ∙ paid.1, subst (owes e.1) same paid.2))
+            (e.1, ap (slice_get enqueued) (here.0 ∙ paid.0) ∙ paid.1, subst (owes e.1) same paid.2))
             (λ (there : (k ≢ f.place) × (slice_get (set answers f.place (Some f.done)) k ≡ slice_get answers k)). settled.owed k done (sym there.1 ∙ at))
             (set_cases answers f.place k (Some f.done) lt);
         filled = each_append _ kept (e ∷ [])
@@ -58,54 +58,54 @@ module _ {T D : Type 0} (owes : T → D → Type 0) where
       }
 
   -- A pass came back that keeps `theirs`, beside those `before`: some of its results are written, the others are left.
-  pub record Settling (laid : List T) (before theirs : List (ℕ × T)) (left : List (Finished D)) (answers : List (Option D)) : Type 0 where
+  pub record Settling (enqueued : List T) (before theirs : List (ℕ × T)) (left : List (Finished D)) (answers : List (Option D)) : Type 0 where
     pub written : List (ℕ × T)
     pub rest : List (ℕ × T)
     pub split : theirs ≡ written ++ rest
-    pub paid : AllZip (IsPaid owes laid) rest left
-    pub settled : Settled owes laid (before ++ written) answers
+    pub paid : AllZip (IsPaid owes enqueued) rest left
+    pub settled : Settled owes enqueued (before ++ written) answers
 
-  pub settling_begins : (laid : List T) (before theirs : List (ℕ × T)) (left : List (Finished D)) (answers : List (Option D)) → AllZip (IsPaid owes laid) theirs left
-      → Settled owes laid before answers → Settling laid before theirs left answers
-  settling_begins laid before theirs left answers paid settled = record {
+  pub settling_begins : (enqueued : List T) (before theirs : List (ℕ × T)) (left : List (Finished D)) (answers : List (Option D)) → AllZip (IsPaid owes enqueued) theirs left
+      → Settled owes enqueued before answers → Settling enqueued before theirs left answers
+  settling_begins enqueued before theirs left answers paid settled = record {
     written = [];
     rest = theirs;
     split = refl;
     paid = paid;
-    settled = subst (λ l. Settled owes laid l answers) (sym (append-nil before)) settled;
+    settled = subst (λ l. Settled owes enqueued l answers) (sym (append-nil before)) settled;
   }
 
   -- the place of a result that is left has an answer
-  pub settling_place : (laid : List T) (before theirs : List (ℕ × T)) (f : Finished D) (left : List (Finished D)) (answers : List (Option D)) → Settling laid before theirs (f ∷ left) answers
+  pub settling_place : (enqueued : List T) (before theirs : List (ℕ × T)) (f : Finished D) (left : List (Finished D)) (answers : List (Option D)) → Settling enqueued before theirs (f ∷ left) answers
       → f.place < length answers
-  settling_place laid before theirs f left answers s = first s.rest s.paid
+  settling_place enqueued before theirs f left answers s = first s.rest s.paid
     where
-      first : (rest : List (ℕ × T)) → AllZip (IsPaid owes laid) rest (f ∷ left) → f.place < length answers
+      first : (rest : List (ℕ × T)) → AllZip (IsPaid owes enqueued) rest (f ∷ left) → f.place < length answers
       first [] paid = absurd paid
       first (e ∷ rest) paid =
-          let inside : e.0 < length laid = slice_get_within laid e.0 e.1 paid.0.1 in
+          let inside : e.0 < length enqueued = slice_get_within enqueued e.0 e.1 paid.0.1 in
           let place : f.place ≡ e.0 = paid.0.0 in
           let size = s.settled.size in
           omega arith
 
-  pub settling_more : (laid : List T) (before theirs : List (ℕ × T)) (f : Finished D) (left : List (Finished D)) (answers : List (Option D)) → Settling laid before theirs (f ∷ left) answers
-      → Settling laid before theirs left (set answers f.place (Some f.done))
-  settling_more laid before theirs f left answers s = go s.rest s.split s.paid
+  pub settling_more : (enqueued : List T) (before theirs : List (ℕ × T)) (f : Finished D) (left : List (Finished D)) (answers : List (Option D)) → Settling enqueued before theirs (f ∷ left) answers
+      → Settling enqueued before theirs left (set answers f.place (Some f.done))
+  settling_more enqueued before theirs f left answers s = go s.rest s.split s.paid
     where
-      go : (rest : List (ℕ × T)) → theirs ≡ s.written ++ rest → AllZip (IsPaid owes laid) rest (f ∷ left) → Settling laid before theirs left (set answers f.place (Some f.done))
+      go : (rest : List (ℕ × T)) → theirs ≡ s.written ++ rest → AllZip (IsPaid owes enqueued) rest (f ∷ left) → Settling enqueued before theirs left (set answers f.place (Some f.done))
       go [] split paid = absurd paid
       go (e ∷ rest) split paid = record {
         written = s.written ++ e ∷ [];
         rest = rest;
         split = split ∙ sym (append_assoc s.written (e ∷ []) rest);
         paid = paid.1;
-        settled = subst (λ l. Settled owes laid l (set answers f.place (Some f.done))) (append_assoc before s.written (e ∷ []))
-            (settled_more laid (before ++ s.written) answers e f s.settled paid.0);
+        settled = subst (λ l. Settled owes enqueued l (set answers f.place (Some f.done))) (append_assoc before s.written (e ∷ []))
+            (settled_more enqueued (before ++ s.written) answers e f s.settled paid.0);
       }
 
-  pub settling_ends : (laid : List T) (before theirs : List (ℕ × T)) (answers : List (Option D)) → Settling laid before theirs [] answers → Settled owes laid (before ++ theirs) answers
-  settling_ends laid before theirs answers s = go s.rest s.split s.paid
+  pub settling_ends : (enqueued : List T) (before theirs : List (ℕ × T)) (answers : List (Option D)) → Settling enqueued before theirs [] answers → Settled owes enqueued (before ++ theirs) answers
+  settling_ends enqueued before theirs answers s = go s.rest s.split s.paid
     where
-      go : (rest : List (ℕ × T)) → theirs ≡ s.written ++ rest → AllZip (IsPaid owes laid) rest [] → Settled owes laid (before ++ theirs) answers
-      go [] split paid = subst (λ l. Settled owes laid (before ++ l) answers) (sym (split ∙ append-nil s.written)) s.settled
+      go : (rest : List (ℕ × T)) → theirs ≡ s.written ++ rest → AllZip (IsPaid owes enqueued) rest [] → Settled owes enqueued (before ++ theirs) answers
+      go [] split paid = subst (λ l. Settled owes enqueued (before ++ l) answers) (sym (split ∙ append-nil s.written)) s.settled
       go (e ∷ rest) split paid = absurd paid

@@ -6,6 +6,6 @@ use Rattle.task_pool.specs.declared.queue.Holding.{Holding}
 abbrev pub all_parts : ℕ
 all_parts = 1024
 
--- a pass with this many parts, to which these tasks were laid, and which keeps these places with the tasks first laid there
+-- a pass with this many parts, which enqueued these tasks and keeps these places with the tasks first enqueued there
 abbrev pub holding : {T : Type 0} → ℕ → List T → List (ℕ × T) → Holding T
-holding parts laid kept = record { parts = parts; laid = laid; kept = kept }
+holding parts enqueued kept = record { parts = parts; enqueued = enqueued; kept = kept }

@@ -7,19 +7,19 @@ use Rattle.task_pool.specs.declared.waiting.Finished.{Finished}
 use Rattle.task_pool.specs.declared.waiting.Tried.{Tried}
 use Rattle.task_pool.specs.declared.waiting.Tried.TheVariants.{Idle, Again, Over}
 use Rattle.task_pool.specs.Holding.{holding}
-use Rattle.task_pool.specs.Rule.{IsLaid, Counts, below, kept_weight}
+use Rattle.task_pool.specs.Rule.{IsEnqueued, Counts, below, kept_weight}
 
 module _ {T D : Type 0} (owes : T → D → Type 0) where
-  -- a result for the place, which the task first laid there owed
+  -- a result for the place, which the task first enqueued there owed
   abbrev pub IsPaid : List T → (ℕ × T) → Finished D → Type 0
-  IsPaid laid e f = (f.place ≡ e.0) × IsLaid laid e × owes e.1 f.done
+  IsPaid enqueued e f = (f.place ≡ e.0) × IsEnqueued enqueued e × owes e.1 f.done
 
   --   what a turn that brought a task to its end tells: its place is kept, and the result was owed there
   pub record Ends (v : Holding T) (f : Finished D) (w : Holding T) : Type 0 where
     pub first : T
-    pub keeps : w ≡ holding v.parts v.laid (v.kept ++ (f.place, first) ∷ [])
-    pub paid : IsPaid v.laid (f.place, first) f
-    pub room : length v.kept < length v.laid
+    pub keeps : w ≡ holding v.parts v.enqueued (v.kept ++ (f.place, first) ∷ [])
+    pub paid : IsPaid v.enqueued (f.place, first) f
+    pub room : length v.kept < length v.enqueued
 
   -- what a try to make a turn tells: no task waited at one moment; or one made a turn and waits again; or one is done
   abbrev pub Tries : Holding T → Tried D → Holding T → Type 0
@@ -27,18 +27,18 @@ module _ {T D : Type 0} (owes : T → D → Type 0) where
   Tries v (Again _) w = w ≡ v
   Tries v (Over f) w = Ends v f w
 
-  --   a pass with one part, to which these tasks were laid, keeps just the places of these results
-  pub record Keeps (laid : List T) (finished : List (Finished D)) (v : Holding T) : Type 0 where
+  --   a pass with one part, which enqueued these tasks, keeps just the places of these results
+  pub record Keeps (enqueued : List T) (finished : List (Finished D)) (v : Holding T) : Type 0 where
     pub part : v.parts ≡ 1
-    pub knows : v.laid ≡ laid
-    pub paid : AllZip (IsPaid laid) v.kept finished
+    pub knows : v.enqueued ≡ enqueued
+    pub paid : AllZip (IsPaid enqueued) v.kept finished
 
   -- the answers are as owed at their places, and there is one at each place that is kept
-  pub record Settled (laid : List T) (kept : List (ℕ × T)) (answers : List (Option D)) : Type 0 where
-    pub size : length answers ≡ length laid
-    pub owed : (k : ℕ) (done : D) → slice_get answers k ≡ Some (Some done) → (first : T) × (slice_get laid k ≡ Some first) × owes first done
+  pub record Settled (enqueued : List T) (kept : List (ℕ × T)) (answers : List (Option D)) : Type 0 where
+    pub size : length answers ≡ length enqueued
+    pub owed : (k : ℕ) (done : D) → slice_get answers k ≡ Some (Some done) → (first : T) × (slice_get enqueued k ≡ Some first) × owes first done
     pub filled : AllByRecursion (λ e. (done : D) × (slice_get answers e.0 ≡ Some (Some done))) kept
 
--- a pass keeps each place of the laid tasks once, however the places are weighed
+-- a pass keeps each place of the enqueued tasks once, however the places are weighed
 abbrev pub IsWhole : {T : Type 0} → List T → List (ℕ × T) → Type 0
-IsWhole laid kept = (weight : ℕ → ℕ) → kept_weight weight kept ≡ below weight (length laid)
+IsWhole enqueued kept = (weight : ℕ → ℕ) → kept_weight weight kept ≡ below weight (length enqueued)

@@ -24,48 +24,48 @@ kept_weight weight kept = total (λ e. weight e.0) kept
 abbrev pub waiting_weight : {T : Type 0} → (ℕ → ℕ) → List (Waiting T) → ℕ
 waiting_weight weight items = total (λ x. weight x.place) items
 
--- the task was first laid at the place
-abbrev pub IsLaid : {T : Type 0} → List T → (ℕ × T) → Type 0
-IsLaid laid e = slice_get laid e.0 ≡ Some e.1
+-- the task was first enqueued at the place
+abbrev pub IsEnqueued : {T : Type 0} → List T → (ℕ × T) → Type 0
+IsEnqueued enqueued e = slice_get enqueued e.0 ≡ Some e.1
 
--- what a pass knows fits the tasks laid: with a part it knows them all, without one it keeps nothing, and it keeps places with the tasks laid there
-pub record Fits {T : Type 0} (laid : List T) (v : Holding T) : Type 0 where
-  pub knows : 0 < v.parts → v.laid ≡ laid
+-- what a pass knows fits the tasks enqueued: with a part it knows them all, without one it keeps nothing, and it keeps places with the tasks enqueued there
+pub record Fits {T : Type 0} (enqueued : List T) (v : Holding T) : Type 0 where
+  pub knows : 0 < v.parts → v.enqueued ≡ enqueued
   pub idle : v.parts ≡ 0 → v.kept ≡ []
-  pub placed : AllByRecursion (IsLaid laid) v.kept
+  pub placed : AllByRecursion (IsEnqueued enqueued) v.kept
 
 module _ {T D : Type 0} (owes : T → D → Type 0) where
-  -- what a waiting task owes, the task first laid at its place owed
-  pub record Owing (laid : List T) (x : Waiting T) : Type 0 where
+  -- what a waiting task owes, the task first enqueued at its place owed
+  pub record Owing (enqueued : List T) (x : Waiting T) : Type 0 where
     pub first : T
-    pub at : slice_get laid x.place ≡ Some first
+    pub at : slice_get enqueued x.place ≡ Some first
     pub pays : (done : D) → owes x.task done → owes first done
 
-  -- Some tasks were laid. Each of their places waits or is kept by a pass, once, however the places are weighed,
-  -- and each waiting task owes no more than the one first laid at its place.
+  -- Some tasks were enqueued. Each of their places waits or is kept by a pass, once, however the places are weighed,
+  -- and each waiting task owes no more than the one first enqueued at its place.
   pub record Holds (items : List (Waiting T)) (views : List (Holding T)) : Type 0 where
-    pub laid : List T
+    pub enqueued : List T
     pub parts : total (λ (v : Holding T). v.parts) views ≡ all_parts
-    pub once : (weight : ℕ → ℕ) → total (λ (v : Holding T). kept_weight weight v.kept) views + waiting_weight weight items ≡ below weight (length laid)
-    pub waiting : AllByRecursion (Owing laid) items
-    pub hands : (pass : ℕ) (v : Holding T) → get_elem? views pass ≡ some v → Fits laid v
+    pub once : (weight : ℕ → ℕ) → total (λ (v : Holding T). kept_weight weight v.kept) views + waiting_weight weight items ≡ below weight (length enqueued)
+    pub waiting : AllByRecursion (Owing enqueued) items
+    pub hands : (pass : ℕ) (v : Holding T) → get_elem? views pass ≡ some v → Fits enqueued v
 
-  -- what a pop tells: the place is kept, with the task first laid there, and there was room for it
+  -- what a pop tells: the place is kept, with the task first enqueued there, and there was room for it
   pub record Takes (v : Holding T) (x : Waiting T) (w : Holding T) : Type 0 where
     pub first : T
-    pub keeps : w ≡ holding v.parts v.laid (v.kept ++ (x.place, first) ∷ [])
-    pub at : slice_get v.laid x.place ≡ Some first
+    pub keeps : w ≡ holding v.parts v.enqueued (v.kept ++ (x.place, first) ∷ [])
+    pub at : slice_get v.enqueued x.place ≡ Some first
     pub pays : (done : D) → owes x.task done → owes first done
-    pub room : length v.kept < length v.laid
+    pub room : length v.kept < length v.enqueued
 
--- what a push of one more task tells: it was laid at the next place
-abbrev pub Lays : {T : Type 0} → Holding T → Waiting T → Holding T → Type 0
-Lays v x w = w ≡ holding v.parts (v.laid ++ x.task ∷ []) v.kept
+-- what a push of one more task tells: it was enqueued at the next place
+abbrev pub Enqueues : {T : Type 0} → Holding T → Waiting T → Holding T → Type 0
+Enqueues v x w = w ≡ holding v.parts (v.enqueued ++ x.task ∷ []) v.kept
 
 -- what a push of a task that was taken last tells: its place is kept no longer
 abbrev pub Gives : {T : Type 0} → Holding T → Waiting T → Holding T → Type 0
-Gives v x w = w ≡ holding v.parts v.laid (take (length v.kept - 1) v.kept)
+Gives v x w = w ≡ holding v.parts v.enqueued (take (length v.kept - 1) v.kept)
 
 -- what the pass with all parts learns: each place is kept by it or waits, once
 abbrev pub Counts : {T : Type 0} → Holding T → List (Waiting T) → Type 0
-Counts v items = v.parts ≡ all_parts → (weight : ℕ → ℕ) → kept_weight weight v.kept + waiting_weight weight items ≡ below weight (length v.laid)
+Counts v items = v.parts ≡ all_parts → (weight : ℕ → ℕ) → kept_weight weight v.kept + waiting_weight weight items ≡ below weight (length v.enqueued)

@@ -70,12 +70,12 @@ impl<T: PoolTask> Account<T> {
         requires pass { IsPassOf queue.now self.old.pass }
         requires parts { (view self.old.pass).parts ≡ all_parts }
         requires few { workers ≤ MOST_WORKERS }
-        requires count { length (view self.old.pass).laid ≤ count }
+        requires count { length (view self.old.pass).enqueued ≤ count }
         ensures pass { OnOk result (IsPassOf queue.now self.new.pass) }
         ensures parts { IfOk result (λ hired. (view self.new.pass).parts + vec_len hired ≡ all_parts) }
         ensures few { IfOk result (λ hired. vec_len hired ≡ workers) }
-        ensures rest { OnOk result (((view self.new.pass).laid ≡ (view self.old.pass).laid) × ((view self.new.pass).kept ≡ (view self.old.pass).kept) × (self.new.answers ≡ self.old.answers)) }
-        ensures hired { IfOk result (λ hired. All (λ w. IsPassOf queue.now w.pass × Keeps T.owes (view self.old.pass).laid w.finished.items (view w.pass) × (length (view self.old.pass).laid ≤ vec_capacity w.finished)) hired.items) }
+        ensures rest { OnOk result (((view self.new.pass).enqueued ≡ (view self.old.pass).enqueued) × ((view self.new.pass).kept ≡ (view self.old.pass).kept) × (self.new.answers ≡ self.old.answers)) }
+        ensures hired { IfOk result (λ hired. All (λ w. IsPassOf queue.now w.pass × Keeps T.owes (view self.old.pass).enqueued w.finished.items (view w.pass) × (length (view self.old.pass).enqueued ≤ vec_capacity w.finished)) hired.items) }
     {
         let mut hired = Vec::with_capacity(alloc, workers as usize)?;
         for _worker in 0..workers {
@@ -95,9 +95,9 @@ impl<T: PoolTask> Account<T> {
         count: u64,
         workers: Vec<Worker<T>>,
     ) -> Result<Vec<Worker<T>>, AllocError>
-        requires hired { All (λ w. IsPassOf queue.now w.pass × Keeps T.owes (view self.now.pass).laid w.finished.items (view w.pass) × (length (view self.now.pass).laid ≤ vec_capacity w.finished)) workers.items }
+        requires hired { All (λ w. IsPassOf queue.now w.pass × Keeps T.owes (view self.now.pass).enqueued w.finished.items (view w.pass) × (length (view self.now.pass).enqueued ≤ vec_capacity w.finished)) workers.items }
         ensures few { IfOk result (λ back. vec_len back ≡ vec_len workers) }
-        ensures back { IfOk result (λ back. AllByRecursion (λ w. IsPassOf queue.now w.pass × Keeps T.owes (view self.now.pass).laid w.finished.items (view w.pass)) back.items) }
+        ensures back { IfOk result (λ back. AllByRecursion (λ w. IsPassOf queue.now w.pass × Keeps T.owes (view self.now.pass).enqueued w.finished.items (view w.pass)) back.items) }
     {
         let progress = Progress::new(count, processors(rt));
         self.start(rt, queue, gate, &progress, workers)
@@ -112,13 +112,13 @@ impl<T: PoolTask> Account<T> {
         progress: &Progress,
         workers: Vec<Worker<T>>,
     ) -> Result<Vec<Worker<T>>, AllocError>
-        requires hired { All (λ w. IsPassOf queue.now w.pass × Keeps T.owes (view self.now.pass).laid w.finished.items (view w.pass) × (length (view self.now.pass).laid ≤ vec_capacity w.finished)) workers.items }
+        requires hired { All (λ w. IsPassOf queue.now w.pass × Keeps T.owes (view self.now.pass).enqueued w.finished.items (view w.pass) × (length (view self.now.pass).enqueued ≤ vec_capacity w.finished)) workers.items }
         ensures few { IfOk result (λ back. vec_len back ≡ vec_len workers) }
-        ensures back { IfOk result (λ back. AllByRecursion (λ w. IsPassOf queue.now w.pass × Keeps T.owes (view self.now.pass).laid w.finished.items (view w.pass)) back.items) }
+        ensures back { IfOk result (λ back. AllByRecursion (λ w. IsPassOf queue.now w.pass × Keeps T.owes (view self.now.pass).enqueued w.finished.items (view w.pass)) back.items) }
     {
         let turns = |worker: Worker<T>| -> Worker<T>
-            requires { IsPassOf queue.now worker.pass × Keeps T.owes (view worker.pass).laid worker.finished.items (view worker.pass) × (length (view worker.pass).laid ≤ vec_capacity worker.finished) }
-            ensures { IsPassOf queue.entry.now result.pass × Keeps T.owes (view worker.pass).laid result.finished.items (view result.pass) }
+            requires { IsPassOf queue.now worker.pass × Keeps T.owes (view worker.pass).enqueued worker.finished.items (view worker.pass) × (length (view worker.pass).enqueued ≤ vec_capacity worker.finished) }
+            ensures { IsPassOf queue.entry.now result.pass × Keeps T.owes (view worker.pass).enqueued result.finished.items (view result.pass) }
         { work(rt, queue, gate, progress, worker) };
         thread::map_vec(rt, workers, &turns)
     }
@@ -127,13 +127,13 @@ impl<T: PoolTask> Account<T> {
     pub(crate) fn take_back(&mut self, queue: &TaskQueue<T>, worker: Worker<T>)
         requires pass { IsPassOf queue.now self.old.pass }
         requires part { 0 < (view self.old.pass).parts }
-        requires settled { Settled T.owes (view self.old.pass).laid (view self.old.pass).kept self.old.answers.items }
+        requires settled { Settled T.owes (view self.old.pass).enqueued (view self.old.pass).kept self.old.answers.items }
         requires worker { IsPassOf queue.now worker.pass }
-        requires keeps { Keeps T.owes (view self.old.pass).laid worker.finished.items (view worker.pass) }
+        requires keeps { Keeps T.owes (view self.old.pass).enqueued worker.finished.items (view worker.pass) }
         ensures pass { IsPassOf queue.now self.new.pass }
         ensures parts { (view self.new.pass).parts ≡ (view self.old.pass).parts + 1 }
-        ensures laid { (view self.new.pass).laid ≡ (view self.old.pass).laid }
-        ensures settled { Settled T.owes (view self.old.pass).laid (view self.new.pass).kept self.new.answers.items }
+        ensures enqueued { (view self.new.pass).enqueued ≡ (view self.old.pass).enqueued }
+        ensures settled { Settled T.owes (view self.old.pass).enqueued (view self.new.pass).kept self.new.answers.items }
     {
         let Worker { pass, finished } = worker;
         queue.absorb::<Parting<T>>(&mut self.pass, pass);
@@ -146,12 +146,12 @@ impl<T: PoolTask> Account<T> {
     pub(crate) fn take_all_back(&mut self, queue: &TaskQueue<T>, workers: Vec<Worker<T>>)
         requires pass { IsPassOf queue.now self.old.pass }
         requires part { 0 < (view self.old.pass).parts }
-        requires settled { Settled T.owes (view self.old.pass).laid (view self.old.pass).kept self.old.answers.items }
-        requires back { AllByRecursion (λ w. IsPassOf queue.now w.pass × Keeps T.owes (view self.old.pass).laid w.finished.items (view w.pass)) workers.items }
+        requires settled { Settled T.owes (view self.old.pass).enqueued (view self.old.pass).kept self.old.answers.items }
+        requires back { AllByRecursion (λ w. IsPassOf queue.now w.pass × Keeps T.owes (view self.old.pass).enqueued w.finished.items (view w.pass)) workers.items }
         ensures pass { IsPassOf queue.now self.new.pass }
         ensures parts { (view self.new.pass).parts ≡ (view self.old.pass).parts + vec_len workers }
-        ensures laid { (view self.new.pass).laid ≡ (view self.old.pass).laid }
-        ensures settled { Settled T.owes (view self.old.pass).laid (view self.new.pass).kept self.new.answers.items }
+        ensures enqueued { (view self.new.pass).enqueued ≡ (view self.old.pass).enqueued }
+        ensures settled { Settled T.owes (view self.old.pass).enqueued (view self.new.pass).kept self.new.answers.items }
     {
         for worker in workers {
             self.take_back(queue, worker);
@@ -162,10 +162,10 @@ impl<T: PoolTask> Account<T> {
     pub(crate) fn finish<G: Gate, R: Wait>(&mut self, rt: &R, queue: &TaskQueue<T>, gate: &G)
         requires pass { IsPassOf queue.now self.old.pass }
         requires all { (view self.old.pass).parts ≡ all_parts }
-        requires settled { Settled T.owes (view self.old.pass).laid (view self.old.pass).kept self.old.answers.items }
-        ensures laid { (view self.new.pass).laid ≡ (view self.old.pass).laid }
-        ensures whole { IsWhole (view self.old.pass).laid (view self.new.pass).kept }
-        ensures settled { Settled T.owes (view self.old.pass).laid (view self.new.pass).kept self.new.answers.items }
+        requires settled { Settled T.owes (view self.old.pass).enqueued (view self.old.pass).kept self.old.answers.items }
+        ensures enqueued { (view self.new.pass).enqueued ≡ (view self.old.pass).enqueued }
+        ensures whole { IsWhole (view self.old.pass).enqueued (view self.new.pass).kept }
+        ensures settled { Settled T.owes (view self.old.pass).enqueued (view self.new.pass).kept self.new.answers.items }
     {
         for _ in rt.forever() {
             match try_turn(rt, queue, gate, &mut self.pass) {
@@ -179,11 +179,11 @@ impl<T: PoolTask> Account<T> {
 
     /// Returns the answers in the order of the places, in the vector that was made for them.
     pub(crate) fn into_dones(self, mut dones: Vec<T::Done>) -> Vec<T::Done>
-        requires settled { Settled T.owes (view self.pass).laid (view self.pass).kept self.answers.items }
-        requires whole { IsWhole (view self.pass).laid (view self.pass).kept }
+        requires settled { Settled T.owes (view self.pass).enqueued (view self.pass).kept self.answers.items }
+        requires whole { IsWhole (view self.pass).enqueued (view self.pass).kept }
         requires none { dones.items ≡ [] }
         requires room { vec_len self.answers ≤ vec_capacity dones }
-        ensures { AllZip T.owes (view self.pass).laid result.items }
+        ensures { AllZip T.owes (view self.pass).enqueued result.items }
     {
         for answer in self.answers {
             match answer {

@@ -6,7 +6,7 @@
 #![tactic(auto)]
 
 mod account;
-mod lay;
+mod enqueue;
 mod pool;
 mod progress;
 mod queue;

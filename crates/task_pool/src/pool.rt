@@ -3,7 +3,7 @@ ghost use Rattle.std.specs.Prelude.{◌≡◌, ◌≤◌, ◌<◌, ◌^◌, vec_
 ghost use Rattle.std.specs.List.{AllZip};
 
 use crate::account::{Account, blank_answers};
-use crate::lay::lay_all;
+use crate::enqueue::enqueue_all;
 use crate::task::PoolTask;
 use service_gate::Gate;
 use std::alloc::Global;
@@ -46,7 +46,7 @@ pub fn run_pool<T: PoolTask, G: Gate, R: Threads + Wait + Sync>(
         return Ok(dones);
     }
     let answers = blank_answers(alloc, count)?;
-    let (queue, pass) = lay_all(rt, alloc, tasks)?;
+    let (queue, pass) = enqueue_all(rt, alloc, tasks)?;
     let mut account = Account { pass, answers };
     let hired = account.hire(alloc, &queue, workers, count)?;
     let back = account.employ(rt, &queue, gate, count as u64, hired)?;

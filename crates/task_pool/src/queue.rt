@@ -1,9 +1,9 @@
 //! The queue of waiting tasks, and the moves of a pass on it.
 //!
 //! A pass holds parts of the right to know every other pass. The calling thread begins with all
-//! parts, lays the tasks, and cuts off a part for each worker.
+//! parts, enqueues the tasks, and cuts off a part for each worker.
 ghost use Rattle.std.specs.Prelude.{◌≡◌, ◌+◌, ◌-◌, [], ◌++◌};
-ghost use Rattle.task_pool.specs.Rule.{Holds, Takes, Lays, Gives, Counts};
+ghost use Rattle.task_pool.specs.Rule.{Holds, Takes, Enqueues, Gives, Counts};
 ghost use Rattle.task_pool.specs.Holding.{holding, all_parts};
 
 use crate::task::PoolTask;
@@ -17,9 +17,9 @@ use std::marker::PhantomData;
 pub(crate) struct Holding<T> {
     /// Its parts of the right to know every pass.
     pub parts: u64,
-    /// The tasks as they were laid in the queue at first, in the order of their places.
-    pub laid: LinkedList<T>,
-    /// The places that it took and hasn't given back, with the tasks first laid there: those that
+    /// The tasks as they were enqueued at first, in the order of their places.
+    pub enqueued: LinkedList<T>,
+    /// The places that it took and hasn't given back, with the tasks first enqueued there: those that
     /// are done, and the one under way.
     pub kept: LinkedList<(u32, T)>,
 }
@@ -33,14 +33,14 @@ impl<T: PoolTask> Protocol<Waiting<T>, Holding<T>> for Law<T> {
     ghost first = { holding all_parts [] [] };
 }
 
-/// A task is laid at the next place.
-pub(crate) struct Laying<T>(PhantomData<T>);
+/// A task is enqueued at the next place.
+pub(crate) struct Enqueuing<T>(PhantomData<T>);
 
-impl<T: PoolTask> Outcome<Waiting<T>, Holding<T>> for Laying<T> {
-    ghost then = { Lays };
+impl<T: PoolTask> Outcome<Waiting<T>, Holding<T>> for Enqueuing<T> {
+    ghost then = { Enqueues };
 }
 
-impl<T: PoolTask> Lesson<Waiting<T>, Holding<T>> for Laying<T> {
+impl<T: PoolTask> Lesson<Waiting<T>, Holding<T>> for Enqueuing<T> {
     ghost fact = { Counts };
 }
 
@@ -70,13 +70,13 @@ impl<T: PoolTask> Lesson<Waiting<T>, Holding<T>> for Giving<T> {
 pub(crate) struct Parting<T>(PhantomData<T>);
 
 impl<T: PoolTask> Split<Holding<T>> for Parting<T> {
-    ghost left = { λ v. holding (v.parts - 1) v.laid v.kept };
+    ghost left = { λ v. holding (v.parts - 1) v.enqueued v.kept };
 
-    ghost right = { λ v. holding 1 v.laid [] };
+    ghost right = { λ v. holding 1 v.enqueued [] };
 }
 
 impl<T: PoolTask> Join<Holding<T>> for Parting<T> {
-    ghost both = { λ v w. holding (v.parts + w.parts) v.laid (v.kept ++ w.kept) };
+    ghost both = { λ v w. holding (v.parts + w.parts) v.enqueued (v.kept ++ w.kept) };
 
     ghost spent = { holding 0 [] [] };
 }

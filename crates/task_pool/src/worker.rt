@@ -35,10 +35,10 @@ pub(crate) fn work<T: PoolTask, G: Gate, R: Wait>(
     worker: Worker<T>,
 ) -> Worker<T>
     requires pass { IsPassOf queue.now worker.pass }
-    requires keeps { Keeps T.owes (view worker.pass).laid worker.finished.items (view worker.pass) }
-    requires room { length (view worker.pass).laid ≤ vec_capacity worker.finished }
+    requires keeps { Keeps T.owes (view worker.pass).enqueued worker.finished.items (view worker.pass) }
+    requires room { length (view worker.pass).enqueued ≤ vec_capacity worker.finished }
     ensures pass { IsPassOf queue.now result.pass }
-    ensures keeps { Keeps T.owes (view worker.pass).laid result.finished.items (view result.pass) }
+    ensures keeps { Keeps T.owes (view worker.pass).enqueued result.finished.items (view result.pass) }
 {
     let Worker {
         mut pass,

@@ -108,8 +108,8 @@ orders_of_words left right = do
   Ok (l, r)
 
 -- a page with these orders, with what its order words hold and its client's state; all indices are 0
-abbrev pub laid : ℕ × ℕ → ℕ × ℕ → EndState → Result Opening ScriptKind
-laid numbers said state = do
+abbrev pub page_opening : ℕ × ℕ → ℕ × ℕ → EndState → Result Opening ScriptKind
+page_opening numbers said state = do
   orders ← ok_or (orders_of numbers.0 numbers.1) BadOrders
   Ok (record { orders = orders; said = said; state = state; start = 0 })
 
@@ -119,7 +119,7 @@ open_of left right = do
   l ← given left
   r ← given right
   numbers ← orders_of_words l r
-  laid numbers numbers Open
+  page_opening numbers numbers Open
 
 -- `fresh L R A B`: the order words hold A and B, and the client is fresh
 abbrev pub fresh_of : List ℕ → List ℕ → List ℕ → List ℕ → Result Opening ScriptKind
@@ -130,7 +130,7 @@ fresh_of left right said_left said_right = do
   b ← given said_right
   numbers ← orders_of_words l r
   said ← orders_of_words a b
-  laid numbers said Fresh
+  page_opening numbers said Fresh
 
 -- the words after `open`
 abbrev pub open_operands : List (List ℕ) → Result Opening ScriptKind

@@ -6,7 +6,7 @@ ghost use Rattle.step_script.specs.declared.error.ScriptKind.TheVariants.{BadOrd
 ghost use Rattle.step_script.specs.Language.Opening.{orders_of};
 ghost use Rattle.step_script.specs.Language.Operands.{number_between};
 ghost use Rattle.step_script.specs.Parts.Readings.{Finds};
-ghost use Rattle.step_script.specs.Language.Grammar.{opening_of, open_operands, fresh_operands, open_of, fresh_of, laid, start_of, start_word};
+ghost use Rattle.step_script.specs.Language.Grammar.{opening_of, open_operands, fresh_operands, open_of, fresh_of, page_opening, start_of, start_word};
 
 use crate::error::ScriptKind;
 use crate::read::operand::{read_given, read_number};
@@ -51,7 +51,7 @@ fn read_open(mut words: WordsOfLine) -> Result<Opening, ScriptKind>
     let left = read_given(left)?;
     let right = read_given(right)?;
     let said = (read_order(left)?, read_order(right)?);
-    lay(said, said, EndState::Open)
+    page_opening(said, said, EndState::Open)
 }
 
 /// Reads the words `L R A B` of a fresh page.
@@ -81,7 +81,7 @@ fn read_fresh_words(
     let said_right = read_given(said_right)?;
     let numbers = (read_order(left)?, read_order(right)?);
     let said = (read_order(said_left)?, read_order(said_right)?);
-    lay(numbers, said, EndState::Fresh)
+    page_opening(numbers, said, EndState::Fresh)
 }
 
 /// Returns the number of a word that may be an order.
@@ -94,8 +94,12 @@ fn read_order(word: &[u8]) -> Result<u16, ScriptKind>
 
 /// Returns the opening of a page with two numbers as its orders, with what the order words hold and
 /// the client's state.
-fn lay(numbers: (u16, u16), said: (u16, u16), state: EndState) -> Result<Opening, ScriptKind>
-    ensures { Finds (λ opening. opening) result (laid numbers said state) }
+fn page_opening(
+    numbers: (u16, u16),
+    said: (u16, u16),
+    state: EndState,
+) -> Result<Opening, ScriptKind>
+    ensures { Finds (λ opening. opening) result (page_opening numbers said state) }
 {
     let orders = page_orders(numbers.0, numbers.1)?;
     Ok(Opening {

@@ -5,7 +5,7 @@ use Rattle.std.proofs.lemmas.Bool.{false≢true}
 use Rattle.std.proofs.Math.Seq.{drop-cons}
 use Rattle.ring_words.specs.Rings.{place}
 use Rattle.ring_words.specs.Page.{index_of}
-use Rattle.ring_words.specs.Laid.{laid, low_bytes}
+use Rattle.ring_words.specs.Overwritten.{overwritten, low_bytes}
 use Rattle.ring_words.specs.declared.order.Orders.{Orders}
 use Rattle.ring_words.specs.declared.page.Ring.{Ring}
 use Rattle.ring_words.specs.declared.page.Ring.TheVariants.{Left, Right}
@@ -82,7 +82,7 @@ drop_on source i n h =
 pub put_piece : (m : Machine) (list source buffer : List ℕ) (i k n at : ℕ) (answer : Answer) → i + n ≤ k → k ≤ length source →
     ((j : ℕ) → j < n → put_place m (i + j) ≡ at + j) →
     MakesEvents n m.orders source (at_put m i k answer) list buffer (at_put m (i + n) k answer)
-    (laid list (index_of m.orders (RingByte (written_ring m.role) at)) (take n (drop i source))) buffer
+    (overwritten list (index_of m.orders (RingByte (written_ring m.role) at)) (take n (drop i source))) buffer
 put_piece m list source buffer i k zero at answer h enough places =
     let none : i + zero ≡ i = omega arith in
     (ap (λ (x : ℕ). at_put m x k answer) none, refl, refl)
@@ -91,12 +91,12 @@ put_piece m list source buffer i k (suc n) at answer h enough places =
     let here : put_place m i ≡ at = ap (λ (x : ℕ). put_place m x) (omega arith) ∙ places 0 (omega arith) ∙ omega arith in
     let list' = slice_set list (index_of m.orders (RingByte ring (put_place m i))) (slice_index source i) in
     let on : i + 1 + n ≡ i + suc n = omega arith in
-    let stored : laid list' (index_of m.orders (RingByte ring (at + 1))) (take n (drop (i + 1) source)) ≡ laid list (index_of m.orders (RingByte ring at)) (take (suc n) (drop i source)) =
-    ap (λ (x : ℕ). laid (slice_set list (index_of m.orders (RingByte ring x)) (slice_index source i)) (index_of m.orders (RingByte ring (at + 1))) (take n (drop (i + 1) source))) here
-    ∙ ap (λ (x : ℕ). laid (slice_set list (index_of m.orders (RingByte ring at)) (slice_index source i)) x (take n (drop (i + 1) source))) (index_on m.orders ring at)
-    ∙ ap (λ (l : List ℕ). laid list (index_of m.orders (RingByte ring at)) l) (sym (drop_on source i n (omega arith))) in
+    let stored : overwritten list' (index_of m.orders (RingByte ring (at + 1))) (take n (drop (i + 1) source)) ≡ overwritten list (index_of m.orders (RingByte ring at)) (take (suc n) (drop i source)) =
+    ap (λ (x : ℕ). overwritten (slice_set list (index_of m.orders (RingByte ring x)) (slice_index source i)) (index_of m.orders (RingByte ring (at + 1))) (take n (drop (i + 1) source))) here
+    ∙ ap (λ (x : ℕ). overwritten (slice_set list (index_of m.orders (RingByte ring at)) (slice_index source i)) x (take n (drop (i + 1) source))) (index_on m.orders ring at)
+    ∙ ap (λ (l : List ℕ). overwritten list (index_of m.orders (RingByte ring at)) l) (sym (drop_on source i n (omega arith))) in
     let later : MakesEvents n m.orders source (at_put m (i + 1) k answer) list' buffer (at_put m (i + 1 + n) k answer)
-    (laid list' (index_of m.orders (RingByte ring (at + 1))) (take n (drop (i + 1) source))) buffer =
+    (overwritten list' (index_of m.orders (RingByte ring (at + 1))) (take n (drop (i + 1) source))) buffer =
     put_piece m list' source buffer (i + 1) k n (at + 1) answer (omega arith) enough
     (λ j less. ap (λ (x : ℕ). put_place m x) (omega arith) ∙ places (j + 1) (omega arith) ∙ omega arith) in (
       at_put m (i + 1) k answer,
@@ -105,7 +105,7 @@ put_piece m list source buffer i k (suc n) at answer h enough places =
       put_one m list source buffer i k answer (omega arith) enough,
       subst (λ (l : List ℕ). MakesEvents n m.orders source (at_put m (i + 1) k answer) list' buffer (at_put m (i + suc n) k answer) l buffer) stored
           (subst (λ (x : ℕ). MakesEvents n m.orders source (at_put m (i + 1) k answer) list' buffer (at_put m x k answer)
-          (laid list' (index_of m.orders (RingByte ring (at + 1))) (take n (drop (i + 1) source))) buffer) on later),
+          (overwritten list' (index_of m.orders (RingByte ring (at + 1))) (take n (drop (i + 1) source))) buffer) on later),
     )
 
 -- ---- a take
@@ -141,7 +141,7 @@ take_one m list source buffer i k answer h enough =
 pub take_piece : (m : Machine) (list source buffer : List ℕ) (i k n at : ℕ) (answer : Answer) → i + n ≤ k → k ≤ length buffer →
     ((j : ℕ) → j < n → take_place m (i + j) ≡ at + j) →
     MakesEvents n m.orders source (at_take m i k answer) list buffer (at_take m (i + n) k answer) list
-    (laid buffer i (low_bytes list (index_of m.orders (RingByte (read_ring m.role) at)) n))
+    (overwritten buffer i (low_bytes list (index_of m.orders (RingByte (read_ring m.role) at)) n))
 take_piece m list source buffer i k zero at answer h enough places =
     let none : i + zero ≡ i = omega arith in
     (ap (λ (x : ℕ). at_take m x k answer) none, refl, refl)
@@ -151,11 +151,11 @@ take_piece m list source buffer i k (suc n) at answer h enough places =
     let value : ℕ → ℕ = λ x. slice_index list (index_of m.orders (RingByte ring x)) % 256 in
     let buffer' = slice_set buffer i (value (take_place m i)) in
     let on : i + 1 + n ≡ i + suc n = omega arith in
-    let filled : laid buffer' (i + 1) (low_bytes list (index_of m.orders (RingByte ring (at + 1))) n) ≡ laid buffer i (low_bytes list (index_of m.orders (RingByte ring at)) (suc n)) =
-    ap (λ (x : ℕ). laid (slice_set buffer i (value x)) (i + 1) (low_bytes list (index_of m.orders (RingByte ring (at + 1))) n)) here
-    ∙ ap (λ (x : ℕ). laid (slice_set buffer i (value at)) (i + 1) (low_bytes list x n)) (index_on m.orders ring at) in
+    let filled : overwritten buffer' (i + 1) (low_bytes list (index_of m.orders (RingByte ring (at + 1))) n) ≡ overwritten buffer i (low_bytes list (index_of m.orders (RingByte ring at)) (suc n)) =
+    ap (λ (x : ℕ). overwritten (slice_set buffer i (value x)) (i + 1) (low_bytes list (index_of m.orders (RingByte ring (at + 1))) n)) here
+    ∙ ap (λ (x : ℕ). overwritten (slice_set buffer i (value at)) (i + 1) (low_bytes list x n)) (index_on m.orders ring at) in
     let later : MakesEvents n m.orders source (at_take m (i + 1) k answer) list buffer' (at_take m (i + 1 + n) k answer) list
-    (laid buffer' (i + 1) (low_bytes list (index_of m.orders (RingByte ring (at + 1))) n)) =
+    (overwritten buffer' (i + 1) (low_bytes list (index_of m.orders (RingByte ring (at + 1))) n)) =
     take_piece m list source buffer' (i + 1) k n (at + 1) answer (omega arith) (omega (arith, length-set buffer i (value (take_place m i))))
     (λ j less. ap (λ (x : ℕ). take_place m x) (omega arith) ∙ places (j + 1) (omega arith) ∙ omega arith) in (
       at_take m (i + 1) k answer,
@@ -164,5 +164,5 @@ take_piece m list source buffer i k (suc n) at answer h enough places =
       take_one m list source buffer i k answer (omega arith) enough,
       subst (λ (b : List ℕ). MakesEvents n m.orders source (at_take m (i + 1) k answer) list buffer' (at_take m (i + suc n) k answer) list b) filled
           (subst (λ (x : ℕ). MakesEvents n m.orders source (at_take m (i + 1) k answer) list buffer' (at_take m x k answer) list
-          (laid buffer' (i + 1) (low_bytes list (index_of m.orders (RingByte ring (at + 1))) n))) on later),
+          (overwritten buffer' (i + 1) (low_bytes list (index_of m.orders (RingByte ring (at + 1))) n))) on later),
     )

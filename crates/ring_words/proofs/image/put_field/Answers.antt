@@ -2,12 +2,12 @@ use Rattle.std.proofs.Common.{◌+◌, ◌-◌, ◌∙◌, ap, arith, get_or, �
 use Rattle.std.proofs.lemmas.List.{get_or-take, places}
 use Rattle.ring_words.specs.Image.{number_piece}
 use Rattle.ring_words.proofs.ByteLaws.{low_byte}
-use Rattle.ring_words.proofs.PieceLaws.{lay_part}
+use Rattle.ring_words.proofs.PieceLaws.{puts_part}
 use Rattle.ring_words.proofs.image.put_field.Goals as goal
 
 pub returns : goal.returns
 returns c =
-    lay_part (number_piece c.args.offset c.args.bytes c.args.word) c.args.image.now c.copy_from_slice.new.self (c.args.offset + c.args.bytes - c.args.offset)
+    puts_part (number_piece c.args.offset c.args.bytes c.args.word) c.args.image.now c.copy_from_slice.new.self (c.args.offset + c.args.bytes - c.args.offset)
     (omega arith)
     (c.copy_from_slice.ensures.len ∙ grind (arith, places))
     (omega arith)

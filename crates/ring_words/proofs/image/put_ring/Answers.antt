@@ -1,12 +1,12 @@
 use Rattle.std.proofs.Common.{arith}
-use Rattle.ring_words.proofs.ImageLaws.{lay_ring, lay_no_ring}
+use Rattle.ring_words.proofs.ImageLaws.{puts_ring, puts_no_ring}
 use Rattle.ring_words.proofs.RingLaws.{size_within}
 use Rattle.ring_words.specs.Page.{order_of}
 use Rattle.ring_words.proofs.image.put_ring.Goals as goal
 
 pub returns-in_default : goal.returns-in_default
 returns-in_default c =
-    lay_no_ring c.args.words.now c.args.ring c.args.image.now (λ offset e. c.in_default.not-Some offset (cc))
+    puts_no_ring c.args.words.now c.args.ring c.args.image.now (λ offset e. c.in_default.not-Some offset (cc))
 
 pub word-first-requires : goal.word-first-requires
 word-first-requires c =
@@ -14,7 +14,7 @@ word-first-requires c =
 
 pub returns : goal.returns
 returns c =
-    lay_ring c.args.words.now c.args.ring c.in-Some.offset c.word-first.result _ _ _
+    puts_ring c.args.words.now c.args.ring c.in-Some.offset c.word-first.result _ _ _
     c.orders.ensures.count
     (cc)
     (cc)

@@ -7,7 +7,7 @@ pub push_reserved-requires : goal.push_reserved-requires
 push_reserved-requires g c =
     let known = c.loop.invariant in
     let short =
-    keeps_room g.T.PoolTask.owes (view c.args.worker.pass).laid c.loop.finished.items c.in-Over.result (view c.loop.pass) (view c.try_turn.new.pass) known.keeps
+    keeps_room g.T.PoolTask.owes (view c.args.worker.pass).enqueued c.loop.finished.items c.in-Over.result (view c.loop.pass) (view c.try_turn.new.pass) known.keeps
     c.in-Over.ensures.tried in
     let ok = c.loop.finished.ok in
     omega arith
@@ -20,7 +20,7 @@ loop-preserved g c =
       is_finite = tt;
       pass = c.in-Over.ensures.pass;
       keeps = rw c.push_reserved.ensures.items
-          (keeps_more g.T.PoolTask.owes (view c.args.worker.pass).laid c.loop.finished.items c.in-Over.result (view c.loop.pass) (view c.try_turn.new.pass) known.keeps
+          (keeps_more g.T.PoolTask.owes (view c.args.worker.pass).enqueued c.loop.finished.items c.in-Over.result (view c.loop.pass) (view c.try_turn.new.pass) known.keeps
           c.in-Over.ensures.tried);
       room = let same = c.push_reserved.ensures.capacity in omega arith;
     }

@@ -8,6 +8,6 @@ invariant-loop g l = record {
   can_next : (goal.iterator-loop g).can_next l.iterator';
   is_finite : (goal.iterator-loop g).is_finite l.iterator';
   pass : IsPassOf l.queue l.pass;
-  keeps : Keeps g.T.PoolTask.owes (view l.fn.worker.pass).laid l.finished.items (view l.pass);
-  room : length (view l.fn.worker.pass).laid ≤ vec_capacity l.finished;
+  keeps : Keeps g.T.PoolTask.owes (view l.fn.worker.pass).enqueued l.finished.items (view l.pass);
+  room : length (view l.fn.worker.pass).enqueued ≤ vec_capacity l.finished;
 }

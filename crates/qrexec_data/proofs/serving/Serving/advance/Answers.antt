@@ -1,4 +1,4 @@
-use Rattle.qrexec_data.proofs.LaidLaws.{stands_gone}
+use Rattle.qrexec_data.proofs.PackLaws.{stands_gone}
 use Rattle.qrexec_data.proofs.serving.Serving.advance.Goals as goal
 
 pub returns-clause-stands : goal.returns-clause-stands

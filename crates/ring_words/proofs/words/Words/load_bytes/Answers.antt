@@ -1,8 +1,8 @@
 use Rattle.std.proofs.Common.{◌≡◌, ◌∙◌, ap, ℕ, ◌<◌, ◌%◌, ◌+◌, ◌++◌, drop, length, slice_index, slice_set, List, arith}
 use Rattle.std.proofs.lemmas.Grind.{common_steps, get_or_default_zero}
 use Rattle.ring_words.specs.PageWords.{PageWords}
-use Rattle.ring_words.specs.Laid.{low_bytes}
-use Rattle.ring_words.proofs.LaidLaws.{loaded_more}
+use Rattle.ring_words.specs.Overwritten.{low_bytes}
+use Rattle.ring_words.proofs.OverwrittenLaws.{loaded_more}
 use Rattle.ring_words.proofs.words.Words.load_bytes.Goals as goal
 
 pub loop-i-preserved : goal.loop-i-preserved

@@ -1,5 +1,5 @@
 use Rattle.std.proofs.Common.{◌≡◌, ◌++◌, drop}
-use Rattle.ring_words.specs.Laid.{low_bytes}
+use Rattle.ring_words.specs.Overwritten.{low_bytes}
 use Rattle.ring_words.proofs.words.Words.load_bytes.Given as goal
 
 abbrev pub invariant-loop-i : goal.invariant-loop-i

@@ -7,16 +7,16 @@ use Rattle.task_pool.proofs.account.Account.finish.Goals as goal
 pub loop-preserved : goal.loop-preserved
 loop-preserved g c =
     let owes = g.T.PoolTask.owes in
-    let laid = (view c.args.self.now.pass).laid in
+    let enqueued = (view c.args.self.now.pass).enqueued in
     let known = c.loop.invariant in
     let ends = c.in-Over.ensures.tried in
-    let paid = subst (λ l. IsPaid owes l (c.in-Over.finished.place, ends.first) c.in-Over.finished) known.laid ends.paid in
+    let paid = subst (λ l. IsPaid owes l (c.in-Over.finished.place, ends.first) c.in-Over.finished) known.enqueued ends.paid in
     record {
       can_next = tt;
       is_finite = tt;
       pass = c.in-Over.ensures.pass;
       all = ap (λ v. v.parts) ends.keeps ∙ known.all;
-      laid = ap (λ v. v.laid) ends.keeps ∙ known.laid;
+      enqueued = ap (λ v. v.enqueued) ends.keeps ∙ known.enqueued;
       settled = rw (c.write_down.ensures, ap (λ v. v.kept) ends.keeps)
-          (settled_more owes laid (view c.loop.self.pass).kept c.loop.self.answers.items (c.in-Over.finished.place, ends.first) c.in-Over.finished known.settled paid);
+          (settled_more owes enqueued (view c.loop.self.pass).kept c.loop.self.answers.items (c.in-Over.finished.place, ends.first) c.in-Over.finished known.settled paid);
     }

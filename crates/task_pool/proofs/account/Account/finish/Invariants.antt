@@ -10,6 +10,6 @@ invariant-loop g l = record {
   is_finite : (goal.iterator-loop g).is_finite l.iterator';
   pass : IsPassOf l.queue l.self.pass;
   all : (view l.self.pass).parts ≡ all_parts;
-  laid : (view l.self.pass).laid ≡ (view l.fn.self.pass).laid;
-  settled : Settled g.T.PoolTask.owes (view l.fn.self.pass).laid (view l.self.pass).kept l.self.answers.items;
+  enqueued : (view l.self.pass).enqueued ≡ (view l.fn.self.pass).enqueued;
+  settled : Settled g.T.PoolTask.owes (view l.fn.self.pass).enqueued (view l.self.pass).kept l.self.answers.items;
 }

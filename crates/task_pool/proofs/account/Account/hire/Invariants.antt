@@ -10,9 +10,9 @@ invariant-loop-worker g l =
     let before = view l.fn.self.pass in
     record {
       pass : IsPassOf l.queue l.self.pass;
-      seen : view l.self.pass ≡ holding (all_parts - l._worker) before.laid before.kept;
+      seen : view l.self.pass ≡ holding (all_parts - l._worker) before.enqueued before.kept;
       count : vec_len l.hired ≡ l._worker;
       room : vec_len l.hired + (l.workers - l._worker) ≤ vec_capacity l.hired;
       answers : l.self.answers ≡ l.fn.self.answers;
-      hired : AllByRecursion (λ w. IsPassOf l.queue w.pass × Keeps g.T.PoolTask.owes before.laid w.finished.items (view w.pass) × (length before.laid ≤ vec_capacity w.finished)) l.hired.items;
+      hired : AllByRecursion (λ w. IsPassOf l.queue w.pass × Keeps g.T.PoolTask.owes before.enqueued w.finished.items (view w.pass) × (length before.enqueued ≤ vec_capacity w.finished)) l.hired.items;
     }

@@ -8,14 +8,14 @@ use Rattle.task_pool.proofs.account.Account.into_dones.Goals as goal
 pub loop-answer-init : goal.loop-answer-init
 loop-answer-init g c =
     let owes = g.T.PoolTask.owes in
-    let laid = (view c.args.self.pass).laid in
+    let enqueued = (view c.args.self.pass).enqueued in
     let gives : into_iter_items c.into_iter-answer-iterator.result ≡ c.args.self.answers.items = c.into_iter-answer-iterator.ensures.into_iter_gives.0 in
-    let all = all_answered owes laid (view c.args.self.pass).kept c.args.self.answers.items c.requires.settled c.requires.whole in
+    let all = all_answered owes enqueued (view c.args.self.pass).kept c.args.self.answers.items c.requires.settled c.requires.whole in
     record {
       can_next = tt;
       is_finite = tt;
       room = rw gives (let ok = c.args.self.answers.ok in let empty = c.args.dones.ok in let none = ap length c.requires.none in let room = c.requires.room in omega arith);
-      answering = rw (gives, c.requires.none) (answering_begins owes laid c.args.self.answers.items all);
+      answering = rw (gives, c.requires.none) (answering_begins owes enqueued c.args.self.answers.items all);
     }
 
 pub loop-answer-preserved : goal.loop-answer-preserved
@@ -29,16 +29,16 @@ loop-answer-preserved g c =
       is_finite = tt;
       room = (let room = known.room in let count = ap length here in let len = pushed.len in let capacity = pushed.capacity in omega arith);
       answering = rw pushed.items
-          (answering_more g.T.PoolTask.owes (view c.args.self.pass).laid c.in-Some-answer.done (into_iter_items c.next.new.self) c.loop-answer.dones.items (rw here at known.answering));
+          (answering_more g.T.PoolTask.owes (view c.args.self.pass).enqueued c.in-Some-answer.done (into_iter_items c.next.new.self) c.loop-answer.dones.items (rw here at known.answering));
     }
 
 pub unreachable-requires : goal.unreachable-requires
 unreachable-requires g c =
     let here : into_iter_items c.loop-answer.answer-iterator ≡ None ∷ into_iter_items c.next.new.self =
     c.in-Some.ensures.steps.0 ∙ ap (λ a. a ∷ into_iter_items c.next.new.self) c.in-None-answer.is in
-    answering_none g.T.PoolTask.owes (view c.args.self.pass).laid (into_iter_items c.next.new.self) c.loop-answer.dones.items (rw here at c.loop-answer.invariant.answering)
+    answering_none g.T.PoolTask.owes (view c.args.self.pass).enqueued (into_iter_items c.next.new.self) c.loop-answer.dones.items (rw here at c.loop-answer.invariant.answering)
 
 pub returns : goal.returns
 returns g c =
     let none : into_iter_items c.loop-answer.answer-iterator ≡ [] = grind (arith, common_steps) in
-    answering_ends g.T.PoolTask.owes (view c.args.self.pass).laid c.loop-answer.dones.items (rw none at c.loop-answer.invariant.answering)
+    answering_ends g.T.PoolTask.owes (view c.args.self.pass).enqueued c.loop-answer.dones.items (rw none at c.loop-answer.invariant.answering)

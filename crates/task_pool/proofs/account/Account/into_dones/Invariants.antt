@@ -10,5 +10,5 @@ invariant-loop-answer g l = record {
   can_next : (goal.iterator-loop-answer g).can_next l.answer-iterator;
   is_finite : (goal.iterator-loop-answer g).is_finite l.answer-iterator;
   room : vec_len l.dones + length (into_iter_items l.answer-iterator) ≤ vec_capacity l.dones;
-  answering : Answering g.T.PoolTask.owes (view l.fn.self.pass).laid (into_iter_items l.answer-iterator) l.dones.items;
+  answering : Answering g.T.PoolTask.owes (view l.fn.self.pass).enqueued (into_iter_items l.answer-iterator) l.dones.items;
 }

@@ -14,7 +14,7 @@ invariant-loop-worker g l =
       pass : IsPassOf l.queue l.self.pass;
       part : 0 < (view l.self.pass).parts;
       parts : (view l.self.pass).parts + length (into_iter_items l.worker-iterator) ≡ before.parts + length l.fn.workers.items;
-      laid : (view l.self.pass).laid ≡ before.laid;
-      settled : Settled g.T.PoolTask.owes before.laid (view l.self.pass).kept l.self.answers.items;
-      back : AllByRecursion (λ w. IsPassOf l.queue w.pass × Keeps g.T.PoolTask.owes before.laid w.finished.items (view w.pass)) (into_iter_items l.worker-iterator);
+      enqueued : (view l.self.pass).enqueued ≡ before.enqueued;
+      settled : Settled g.T.PoolTask.owes before.enqueued (view l.self.pass).kept l.self.answers.items;
+      back : AllByRecursion (λ w. IsPassOf l.queue w.pass × Keeps g.T.PoolTask.owes before.enqueued w.finished.items (view w.pass)) (into_iter_items l.worker-iterator);
     }

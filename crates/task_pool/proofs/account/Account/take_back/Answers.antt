@@ -22,7 +22,7 @@ loop-result-init g c =
       pass = (c.absorb.ensures.queue.0 ∙ c.requires.pass.0, c.absorb.ensures.queue.2 ∙ c.requires.pass.1);
       view = c.absorb.ensures.rule;
       settling = rw gives
-          (settling_begins g.T.PoolTask.owes before.laid before.kept theirs.kept c.args.worker.finished.items c.args.self.now.answers.items c.requires.keeps.paid c.requires.settled);
+          (settling_begins g.T.PoolTask.owes before.enqueued before.kept theirs.kept c.args.worker.finished.items c.args.self.now.answers.items c.requires.keeps.paid c.requires.settled);
     }
 
 pub write_down-requires : goal.write_down-requires
@@ -31,7 +31,7 @@ write_down-requires g c =
     let theirs = view c.args.worker.pass in
     let settling = rw c.in-Some.ensures.steps.0 at c.loop-result.invariant.settling in
     let lt : c.in-Some.result.place < length c.loop-result.self.answers.items =
-    settling_place g.T.PoolTask.owes before.laid before.kept theirs.kept c.in-Some.result _ c.loop-result.self.answers.items settling in
+    settling_place g.T.PoolTask.owes before.enqueued before.kept theirs.kept c.in-Some.result _ c.loop-result.self.answers.items settling in
     let ok = c.loop-result.self.answers.ok in
     omega arith
 
@@ -47,7 +47,7 @@ loop-result-preserved g c =
       pass = known.pass;
       view = known.view;
       settling = rw c.write_down.ensures
-          (settling_more g.T.PoolTask.owes before.laid before.kept theirs.kept c.in-Some.result _ c.loop-result.self.answers.items settling);
+          (settling_more g.T.PoolTask.owes before.enqueued before.kept theirs.kept c.in-Some.result _ c.loop-result.self.answers.items settling);
     }
 
 pub returns-clause-settled : goal.returns-clause-settled
@@ -57,4 +57,4 @@ returns-clause-settled g c =
     let known = c.loop-result.invariant in
     let none : into_iter_items c.loop-result.result-iterator ≡ [] = grind (arith, common_steps) in
     let settling = rw none at known.settling in
-    rw known.view (settling_ends g.T.PoolTask.owes before.laid before.kept theirs.kept c.loop-result.self.answers.items settling)
+    rw known.view (settling_ends g.T.PoolTask.owes before.enqueued before.kept theirs.kept c.loop-result.self.answers.items settling)

@@ -14,6 +14,6 @@ invariant-loop-result g l =
       can_next : (goal.iterator-loop-result g).can_next l.result-iterator;
       is_finite : (goal.iterator-loop-result g).is_finite l.result-iterator;
       pass : IsPassOf l.queue l.self.pass;
-      view : view l.self.pass ≡ holding (before.parts + theirs.parts) before.laid (before.kept ++ theirs.kept);
-      settling : Settling g.T.PoolTask.owes before.laid before.kept theirs.kept (into_iter_items l.result-iterator) l.self.answers.items;
+      view : view l.self.pass ≡ holding (before.parts + theirs.parts) before.enqueued (before.kept ++ theirs.kept);
+      settling : Settling g.T.PoolTask.owes before.enqueued before.kept theirs.kept (into_iter_items l.result-iterator) l.self.answers.items;
     }

@@ -2,7 +2,7 @@ use Rattle.std.proofs.Common.{◌≡◌, ◌<◌, ◌≤◌, ℕ, List, take, dr
 use Rattle.ring_words.specs.Page.{order_of, index_of}
 use Rattle.ring_words.specs.PageWords.{PageWords}
 use Rattle.ring_words.specs.Rings.{place, size}
-use Rattle.ring_words.specs.Laid.{laid}
+use Rattle.ring_words.specs.Overwritten.{overwritten}
 use Rattle.ring_words.specs.declared.order.Order.{Order}
 use Rattle.ring_words.specs.declared.order.Orders.{Orders}
 use Rattle.ring_words.specs.declared.page.Ring.{Ring}
@@ -29,10 +29,10 @@ returns-clause-events c = λ count within enough answer buffer.
     ap (λ (x : ℕ). place x (write_order (standing m))) same ∙ place_on (m.prod + at) j (write_order (standing m)) (omega (arith, begins, fits))
     ∙ ap (λ (x : ℕ). x + j) (sym begins) in
     let back : at + len - at ≡ len = omega arith in
-    let list : c.store_bytes.new.self.list ≡ laid c.args.words.now.list (index_of m.orders (RingByte (written_ring m.role) first)) (take len (drop at c.args.payload.now)) =
+    let list : c.store_bytes.new.self.list ≡ overwritten c.args.words.now.list (index_of m.orders (RingByte (written_ring m.role) first)) (take len (drop at c.args.payload.now)) =
     ap (λ (w : PageWords). w.list) c.store_bytes.ensures.words
-    ∙ ap (λ (o : Orders). laid c.args.words.now.list (index_of o (RingByte c.written_as-ring.result first)) (take (at + len - at) (drop at c.args.payload.now))) c.requires.orders
-    ∙ ap (λ (r : Ring). laid c.args.words.now.list (index_of m.orders (RingByte r first)) (take (at + len - at) (drop at c.args.payload.now))) c.written_as-ring.ensures
-    ∙ ap (λ (x : ℕ). laid c.args.words.now.list (index_of m.orders (RingByte (written_ring m.role) first)) (take x (drop at c.args.payload.now))) back in
+    ∙ ap (λ (o : Orders). overwritten c.args.words.now.list (index_of o (RingByte c.written_as-ring.result first)) (take (at + len - at) (drop at c.args.payload.now))) c.requires.orders
+    ∙ ap (λ (r : Ring). overwritten c.args.words.now.list (index_of m.orders (RingByte r first)) (take (at + len - at) (drop at c.args.payload.now))) c.written_as-ring.ensures
+    ∙ ap (λ (x : ℕ). overwritten c.args.words.now.list (index_of m.orders (RingByte (written_ring m.role) first)) (take x (drop at c.args.payload.now))) back in
     let moved = put_piece m c.args.words.now.list c.args.payload.now buffer at count len first answer (omega arith) enough places in
     subst (λ (l : List ℕ). MakesEvents len m.orders c.args.payload.now (at_put m at count answer) c.args.words.now.list buffer (at_put m (at + len) count answer) l buffer) (sym list) moved

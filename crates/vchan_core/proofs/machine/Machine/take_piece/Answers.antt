@@ -2,13 +2,13 @@ use Rattle.std.proofs.Common.{◌≡◌, ◌<◌, ◌≤◌, ℕ, List, length, 
 use Rattle.std.proofs.lemmas.List.{length-take, length-drop}
 use Rattle.ring_words.specs.Page.{order_of, index_of}
 use Rattle.ring_words.specs.Rings.{place, size}
-use Rattle.ring_words.specs.Laid.{laid, low_bytes}
+use Rattle.ring_words.specs.Overwritten.{overwritten, low_bytes}
 use Rattle.ring_words.specs.declared.order.Order.{Order}
 use Rattle.ring_words.specs.declared.order.Orders.{Orders}
 use Rattle.ring_words.specs.declared.page.Ring.{Ring}
 use Rattle.ring_words.specs.declared.page.WordName.TheVariants.{RingByte}
 use Rattle.ring_words.proofs.RingLaws.{place_wraps, place_on}
-use Rattle.ring_words.proofs.LaidLaws.{laid_is, length_low_bytes}
+use Rattle.ring_words.proofs.OverwrittenLaws.{overwritten_is, length_low_bytes}
 use Rattle.vchan_protocol.specs.Table.Ends.{read_order, read_ring}
 use Rattle.vchan_core.specs.OneMachine.Phases.{standing}
 use Rattle.vchan_core.specs.WholeCall.EventsMade.{MakesEvents}
@@ -40,9 +40,9 @@ returns-clause-events c = λ count within enough answer payload.
     ∙ ap (λ (o : Orders). low_bytes list (index_of o (RingByte c.read_as-ring.result first)) len) c.requires.orders
     ∙ ap (λ (r : Ring). low_bytes list (index_of m.orders (RingByte r first)) len) c.read_as-ring.ensures in
     let as_many = length_low_bytes list index len in
-    let laid_so : take at buffer ++ (c.load_bytes.new.buf ++ drop (at + len - at) (drop at buffer)) ≡ laid buffer at (low_bytes list index len) =
+    let overwritten_so : take at buffer ++ (c.load_bytes.new.buf ++ drop (at + len - at) (drop at buffer)) ≡ overwritten buffer at (low_bytes list index len) =
     ap (λ (l : List ℕ). take at buffer ++ (l ++ drop (at + len - at) (drop at buffer))) loaded
     ∙ ap (λ (n : ℕ). take at buffer ++ (low_bytes list index len ++ drop n (drop at buffer))) (back ∙ sym as_many)
-    ∙ sym (laid_is buffer at (low_bytes list index len) (omega (arith, as_many, c.requires.buf))) in
+    ∙ sym (overwritten_is buffer at (low_bytes list index len) (omega (arith, as_many, c.requires.buf))) in
     let moved = take_piece m list payload buffer at count len first answer (omega arith) enough places in
-    subst (λ (b : List ℕ). MakesEvents len m.orders payload (at_take m at count answer) list buffer (at_take m (at + len) count answer) list b) (sym laid_so) moved
+    subst (λ (b : List ℕ). MakesEvents len m.orders payload (at_take m at count answer) list buffer (at_take m (at + len) count answer) list b) (sym overwritten_so) moved

@@ -1,17 +1,17 @@
-//! Laying the tasks in the queue.
+//! Putting the tasks into the queue.
 ghost use Rattle.std.specs.Prelude.{◌≡◌, ◌<◌, ◌^◌, ◌++◌, [], length, vec_len, IfOk};
 ghost use Rattle.crossbeam_queue.specs.Passes.{view, IsPassOf, ruled_capacity};
 ghost use Rattle.task_pool.specs.Holding.{holding, all_parts};
 
 use crate::pool::MOST_WORKERS;
-use crate::queue::{Laying, TaskPass, TaskQueue};
+use crate::queue::{Enqueuing, TaskPass, TaskQueue};
 use crate::task::PoolTask;
 use crate::waiting::Waiting;
 use std::alloc::{AllocError, Global};
 use std::sync::Wait;
 
 /// Returns a queue with the tasks at their places, and the pass with all parts.
-pub(crate) fn lay_all<T: PoolTask, R: Wait>(
+pub(crate) fn enqueue_all<T: PoolTask, R: Wait>(
     rt: &R,
     alloc: Global,
     tasks: Vec<T>,
@@ -25,7 +25,7 @@ pub(crate) fn lay_all<T: PoolTask, R: Wait>(
     let (queue, mut pass) = TaskQueue::ruled(alloc, tasks.len() * 2 + MOST_WORKERS as usize)?;
     let mut place = 0u32;
     for task in tasks {
-        match queue.push_as::<Laying<T>, R>(rt, &mut pass, Waiting { place, task }) {
+        match queue.push_as::<Enqueuing<T>, R>(rt, &mut pass, Waiting { place, task }) {
             Ok(()) => place += 1,
             Err(_) => unreachable!(),
         }

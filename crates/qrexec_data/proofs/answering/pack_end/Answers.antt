@@ -3,7 +3,7 @@ use Rattle.std.proofs.lemmas.Int.{to_z-of_z}
 use Rattle.std.proofs.lemmas.Result.{on_ok_weaker}
 use Rattle.qrexec_frame.specs.Messages.{written}
 use Rattle.qrexec_frame.specs.declared.message.Message.TheVariants.{Stdout, Stderr, ExitCode}
-use Rattle.qrexec_data.proofs.answering.lay_end.Goals as goal
+use Rattle.qrexec_data.proofs.answering.pack_end.Goals as goal
 
 -- three messages after others
 three : (w out err code one two all : List ℕ) → one ≡ w ++ out → two ≡ one ++ err → all ≡ two ++ code → all ≡ w ++ (out ++ (err ++ code))

@@ -2,26 +2,26 @@
 use Rattle.std.proofs.Common.{◌≡◌, ℕ, suc, zero, ◌+◌, ◌<◌, ◌≤◌, ◌%◌, List, [], ◌∷◌, ◌++◌, length, take, drop, get_or, slice_index, slice_set, refl, sym, ap, ◌∙◌, arith, append_assoc}
 use Rattle.std.proofs.lemmas.List.{length-set, length-take, take_more, take_more_set, take-append-drop, drop-set-lt}
 use Rattle.std.proofs.Math.Seq.{drop-cons, set-append_seam}
-use Rattle.ring_words.specs.Laid.{laid, low_bytes}
+use Rattle.ring_words.specs.Overwritten.{overwritten, low_bytes}
 
-pub length_laid : (list : List ℕ) (first : ℕ) (values : List ℕ) → length (laid list first values) ≡ length list
-length_laid list first [] = refl
-length_laid list first (value ∷ values) = length_laid (slice_set list first value) (first + 1) values ∙ length-set list first value
+pub length_overwritten : (list : List ℕ) (first : ℕ) (values : List ℕ) → length (overwritten list first values) ≡ length list
+length_overwritten list first [] = refl
+length_overwritten list first (value ∷ values) = length_overwritten (slice_set list first value) (first + 1) values ∙ length-set list first value
 
 -- one more value is stored after the others
-pub laid_push : (list : List ℕ) (first : ℕ) (values : List ℕ) (value : ℕ) → laid list first (values ++ value ∷ []) ≡ slice_set (laid list first values) (first + length values) value
-laid_push list first [] value = let same : first ≡ first + 0 = omega arith in ap (λ (k : ℕ). slice_set list k value) same
-laid_push list first (head ∷ values) value =
+pub overwritten_push : (list : List ℕ) (first : ℕ) (values : List ℕ) (value : ℕ) → overwritten list first (values ++ value ∷ []) ≡ slice_set (overwritten list first values) (first + length values) value
+overwritten_push list first [] value = let same : first ≡ first + 0 = omega arith in ap (λ (k : ℕ). slice_set list k value) same
+overwritten_push list first (head ∷ values) value =
     let same : first + 1 + length values ≡ first + length (head ∷ values) = omega arith in
-    laid_push (slice_set list first head) (first + 1) values value
-    ∙ ap (λ (k : ℕ). slice_set (laid (slice_set list first head) (first + 1) values) k value) same
+    overwritten_push (slice_set list first head) (first + 1) values value
+    ∙ ap (λ (k : ℕ). slice_set (overwritten (slice_set list first head) (first + 1) values) k value) same
 
-pub laid_more : (list : List ℕ) (first : ℕ) (values : List ℕ) (i : ℕ) → i < length values →
-    laid list first (take (i + 1) values) ≡ slice_set (laid list first (take i values)) (first + i) (slice_index values i)
-laid_more list first values i h =
+pub overwritten_more : (list : List ℕ) (first : ℕ) (values : List ℕ) (i : ℕ) → i < length values →
+    overwritten list first (take (i + 1) values) ≡ slice_set (overwritten list first (take i values)) (first + i) (slice_index values i)
+overwritten_more list first values i h =
     let whole : length (take i values) ≡ i = omega (arith, length-take i values) in
-    ap (λ (l : List ℕ). laid list first l) (take_more values i 0 h) ∙ laid_push list first (take i values) (slice_index values i)
-    ∙ ap (λ (k : ℕ). slice_set (laid list first (take i values)) (first + k) (slice_index values i)) whole
+    ap (λ (l : List ℕ). overwritten list first l) (take_more values i 0 h) ∙ overwritten_push list first (take i values) (slice_index values i)
+    ∙ ap (λ (k : ℕ). slice_set (overwritten list first (take i values)) (first + k) (slice_index values i)) whole
 
 pub length_low_bytes : (list : List ℕ) (first count : ℕ) → length (low_bytes list first count) ≡ count
 length_low_bytes list first zero = refl
@@ -48,17 +48,17 @@ loaded_more list buffer first count h =
     ∙ ap (λ (l : List ℕ). l ++ drop (suc count) buffer) (sym (low_bytes_push list first count))
     ∙ ap (λ (k : ℕ). low_bytes list first k ++ drop k buffer) more
 
--- values that are laid into a list with room stand between what was before and after them
-pub laid_is : (list : List ℕ) (first : ℕ) (values : List ℕ) → first + length values ≤ length list → laid list first values ≡ take first list ++ (values ++ drop (length values) (drop first list))
-laid_is list first [] h = sym (take-append-drop first list)
-laid_is list first (value ∷ values) h =
+-- values that overwrite a part of a list stand between what was before and after them
+pub overwritten_is : (list : List ℕ) (first : ℕ) (values : List ℕ) → first + length values ≤ length list → overwritten list first values ≡ take first list ++ (values ++ drop (length values) (drop first list))
+overwritten_is list first [] h = sym (take-append-drop first list)
+overwritten_is list first (value ∷ values) h =
     let more : suc first ≡ first + 1 = omega arith in
     let list' = slice_set list first value in
     let front : take (first + 1) list' ≡ take first list ++ value ∷ [] = take_more_set list first value (omega arith) in
     let behind : drop (length values) (drop (first + 1) list') ≡ drop (length (value ∷ values)) (drop first list) =
     ap (λ (l : List ℕ). drop (length values) l) (drop-set-lt (first + 1) list first value (omega arith))
     ∙ sym (ap (λ (l : List ℕ). drop (length (value ∷ values)) l) (drop-cons list first 0 (omega arith)) ∙ ap (λ (k : ℕ). drop (length values) (drop k list)) more) in
-    laid_is list' (first + 1) values (omega (arith, length-set list first value))
+    overwritten_is list' (first + 1) values (omega (arith, length-set list first value))
     ∙ ap (λ (l : List ℕ). l ++ (values ++ drop (length values) (drop (first + 1) list'))) front
     ∙ append_assoc (take first list) (value ∷ []) (values ++ drop (length values) (drop (first + 1) list'))
     ∙ ap (λ (l : List ℕ). take first list ++ (value ∷ (values ++ l))) behind

@@ -1,4 +1,4 @@
--- A side that serves keeps what it stands for when a message is laid and when bytes have gone.
+-- A side that serves keeps what it stands for when a message is packed and when bytes have gone.
 use Rattle.std.proofs.Common.{◌≡◌, ℕ, ◌<◌, ◌≤◌, suc, zero, List, [], ◌∷◌, ◌++◌, length, take, drop, map, refl, ap, sym, ◌∙◌, subst, arith, append_assoc, ◌⊎◌, inl, inr, Option, Some, None}
 use Rattle.std.proofs.lemmas.List.{append-nil, take-append-drop, length-take-le}
 use Rattle.std.proofs.lemmas.Bool.Decides.{nat_tests}
@@ -17,7 +17,7 @@ use Rattle.qrexec_data.specs.declared.outcome.Outcome.TheVariants as outcome
 use Rattle.qrexec_data.specs.Pieces.{In, Out, Err as Errors, Piece, message_of, joined, is_output}
 use Rattle.qrexec_data.specs.Seeing.{Seen}
 use Rattle.qrexec_data.specs.Sending.{agreed_by, most}
-use Rattle.qrexec_data.specs.Answering.{AnsweringState, next_len, laid_end, laid_next, laid_on, end_bytes, done_if, is_over, over_if, after_gone}
+use Rattle.qrexec_data.specs.Answering.{AnsweringState, next_len, packed_end, packed_next, packed_on, end_bytes, done_if, is_over, over_if, after_gone}
 use Rattle.qrexec_data.specs.ServingSide.{ServingState, Gives, ends_if, SendsOutputs, SendsAnswers, AgreesWith, Serves, IsServing, ServingStandsFor, LendsAnswers, HasGivenAll, IsStill}
 use Rattle.qrexec_data.proofs.RepliesLaws.{if_true, if_false}
 use Rattle.qrexec_data.proofs.HearingLaws.{joined_piece, joined_other}
@@ -39,13 +39,13 @@ same_if : {S : Type 0} (a : AnsweringState S) (b : Bool) (x y : AnsweringState S
 same_if a true x y h k = h
 same_if a false x y h k = k
 
-same_end : {S : Type 0} (a : AnsweringState S) (code : Option ℤ) → Same a (laid_end code a)
+same_end : {S : Type 0} (a : AnsweringState S) (code : Option ℤ) → Same a (packed_end code a)
 same_end a None = record { own = refl; chunk = refl; version = refl; code = refl; outcome = refl }
 same_end a (Some code) = same_if a a.closed _ _ (record { own = refl; chunk = refl; version = refl; code = refl; outcome = refl }) (record { own = refl; chunk = refl; version = refl; code = refl; outcome = refl })
 
-pub same_laid : {S : Type 0} (version : Option ℕ) (a : AnsweringState S) → Same a (laid_on version a)
-same_laid None a = record { own = refl; chunk = refl; version = refl; code = refl; outcome = refl }
-same_laid (Some version) a =
+pub same_packed : {S : Type 0} (version : Option ℕ) (a : AnsweringState S) → Same a (packed_on version a)
+same_packed None a = record { own = refl; chunk = refl; version = refl; code = refl; outcome = refl }
+same_packed (Some version) a =
     same_if a (length a.waiting == 0) _ _
     (same_if a (nat_lt 0 (length a.out)) _ _ (record { own = refl; chunk = refl; version = refl; code = refl; outcome = refl })
     (same_if a (nat_lt 0 (length a.err)) _ _ (record { own = refl; chunk = refl; version = refl; code = refl; outcome = refl }) (same_end a a.code)))
@@ -64,7 +64,7 @@ serves_same owes owed a b sent sent' same sends placed seen s =
       sends = sends (joined In seen.pieces) s.sends;
     }
 
--- ---- a message is laid
+-- ---- a message is packed
 
 regives : {S : Type 0} (owes : S → List ℕ → Triple) (owed : List ℕ → Triple) (code : Option ℤ) (a b : AnsweringState S) (input : List ℕ) (ps qs : List Piece) → b.service ≡ a.service
     → joined Out ps ++ a.out ≡ joined Out qs ++ b.out → joined Errors ps ++ a.err ≡ joined Errors qs ++ b.err → Gives owes owed code a input ps → Gives owes owed code b input qs
@@ -85,7 +85,7 @@ some_bytes xs is = grind (arith, nat_tests, is)
 some_not : (xs : List ℕ) → 0 < length xs → xs ≡ [] → ⊥
 some_not xs some is = let none : length xs ≡ 0 = ap length is in omega (arith, some, none)
 
--- a piece of an output is laid
+-- a piece of an output is packed
 sends_one : {S : Type 0} (owes : S → List ℕ → Triple) (owed : List ℕ → Triple) (limit : ℕ) (a b : AnsweringState S) (input sent : List ℕ) (p : Piece) (s : SendsOutputs owes owed limit a input sent)
     → is_output p.stream ≡ true → 0 < length p.bytes → length p.bytes ≤ limit → a.closed ≡ false → b.own ≡ a.own → b.closed ≡ a.closed → b.code ≡ a.code → b.service ≡ a.service
     → b.waiting ≡ a.waiting ++ written (message_of p)
@@ -107,7 +107,7 @@ sends_one owes owed limit a b input sent p s output some least shut own closed c
       done = λ is. let no : false ≡ true = sym (closed ∙ shut) ∙ is in cc;
     }
 
--- the ends and the exit code are laid
+-- the ends and the exit code are packed
 sends_ends : {S : Type 0} (owes : S → List ℕ → Triple) (owed : List ℕ → Triple) (limit : ℕ) (a : AnsweringState S) (input sent : List ℕ) (code : ℤ) → SendsOutputs owes owed limit a input sent
     → a.closed ≡ false → a.code ≡ Some code → a.out ≡ [] → a.err ≡ [] → SendsOutputs owes owed limit (record a { closed = true; waiting = a.waiting ++ end_bytes code }) input sent
 sends_ends {S} owes owed limit a input sent code s shut code_is out err =
@@ -137,7 +137,7 @@ not_closed owes owed limit a input sent s some true is = absurd (some ((s.done i
 not_closed owes owed limit a input sent s some false is = is
 
 sends_next : {S : Type 0} (owes : S → List ℕ → Triple) (owed : List ℕ → Triple) (version : ℕ) (a : AnsweringState S) (input sent : List ℕ) → 0 < a.chunk
-    → SendsOutputs owes owed (min a.chunk (most version)) a input sent → SendsOutputs owes owed (min a.chunk (most version)) (laid_next version a) input sent
+    → SendsOutputs owes owed (min a.chunk (most version)) a input sent → SendsOutputs owes owed (min a.chunk (most version)) (packed_next version a) input sent
 sends_next {S} owes owed version a input sent chunk s = by_out (nat_lt 0 (length a.out)) refl
   where
     limit : ℕ
@@ -149,15 +149,15 @@ sends_next {S} owes owed version a input sent chunk s = by_out (nat_lt 0 (length
     Is : AnsweringState S → Type 0
     Is x = SendsOutputs owes owed limit x input sent
 
-    by_closed : (code : ℤ) → a.code ≡ Some code → a.out ≡ [] → a.err ≡ [] → (b : Bool) → a.closed ≡ b → Is (laid_end (Some code) a)
+    by_closed : (code : ℤ) → a.code ≡ Some code → a.out ≡ [] → a.err ≡ [] → (b : Bool) → a.closed ≡ b → Is (packed_end (Some code) a)
     by_closed code is out err true closed = subst Is (sym (if_true a.closed _ _ closed)) s
     by_closed code is out err false closed = subst Is (sym (if_false a.closed _ _ closed)) (sends_ends owes owed limit a input sent code s closed is out err)
 
-    by_code : a.out ≡ [] → a.err ≡ [] → (c : Option ℤ) → a.code ≡ c → Is (laid_end c a)
+    by_code : a.out ≡ [] → a.err ≡ [] → (c : Option ℤ) → a.code ≡ c → Is (packed_end c a)
     by_code out err None is = s
     by_code out err (Some code) is = by_closed code is out err a.closed refl
 
-    by_err : nat_lt 0 (length a.out) ≡ false → (b : Bool) → nat_lt 0 (length a.err) ≡ b → Is (laid_next version a)
+    by_err : nat_lt 0 (length a.out) ≡ false → (b : Bool) → nat_lt 0 (length a.err) ≡ b → Is (packed_next version a)
     by_err out true is =
         let some = some_bytes a.err is in
         let n : ℕ = next_len version a a.err in
@@ -170,7 +170,7 @@ sends_next {S} owes owed version a input sent chunk s = by_out (nat_lt 0 (length
     by_err out false is =
         subst Is (sym (if_false (nat_lt 0 (length a.out)) _ _ out ∙ if_false (nat_lt 0 (length a.err)) _ _ is)) (by_code (no_bytes a.out out) (no_bytes a.err is) a.code refl)
 
-    by_out : (b : Bool) → nat_lt 0 (length a.out) ≡ b → Is (laid_next version a)
+    by_out : (b : Bool) → nat_lt 0 (length a.out) ≡ b → Is (packed_next version a)
     by_out true is =
         let some = some_bytes a.out is in
         let n : ℕ = next_len version a a.out in
@@ -182,27 +182,27 @@ sends_next {S} owes owed version a input sent chunk s = by_out (nat_lt 0 (length
         (moved (joined Out s.pieces) a.out n _ (joined_piece Out s.pieces p refl)) (ap (λ x. x ++ a.err) (sym (joined_other Errors s.pieces p refl))))
     by_out false is = by_err is (nat_lt 0 (length a.err)) refl
 
-sends_laid : {S : Type 0} (owes : S → List ℕ → Triple) (owed : List ℕ → Triple) (version : Option ℕ) (a : AnsweringState S) (input sent : List ℕ) → 0 < a.chunk
-    → SendsAnswers owes owed version a input sent → SendsAnswers owes owed version (laid_on version a) input sent
-sends_laid owes owed None a input sent chunk s = s
-sends_laid {S} owes owed (Some version) a input sent chunk s = by_waiting (length a.waiting == 0) refl
+sends_packed : {S : Type 0} (owes : S → List ℕ → Triple) (owed : List ℕ → Triple) (version : Option ℕ) (a : AnsweringState S) (input sent : List ℕ) → 0 < a.chunk
+    → SendsAnswers owes owed version a input sent → SendsAnswers owes owed version (packed_on version a) input sent
+sends_packed owes owed None a input sent chunk s = s
+sends_packed {S} owes owed (Some version) a input sent chunk s = by_waiting (length a.waiting == 0) refl
   where
     Is : AnsweringState S → Type 0
     Is x = SendsOutputs owes owed (min x.chunk (most version)) x input sent
 
-    by_waiting : (b : Bool) → (length a.waiting == 0) ≡ b → Is (laid_on (Some version) a)
+    by_waiting : (b : Bool) → (length a.waiting == 0) ≡ b → Is (packed_on (Some version) a)
     by_waiting true is =
-        let laid : laid_on (Some version) a ≡ laid_next version a = if_true (length a.waiting == 0) _ _ is in
-        let size : (laid_next version a).chunk ≡ a.chunk = ap (λ x. x.chunk) (sym laid) ∙ (same_laid (Some version) a).chunk in
-        let L : ℕ → Type 0 = λ n. SendsOutputs owes owed (min n (most version)) (laid_next version a) input sent in
-        subst Is (sym laid) (subst L (sym size) (sends_next owes owed version a input sent chunk s))
+        let packed : packed_on (Some version) a ≡ packed_next version a = if_true (length a.waiting == 0) _ _ is in
+        let size : (packed_next version a).chunk ≡ a.chunk = ap (λ x. x.chunk) (sym packed) ∙ (same_packed (Some version) a).chunk in
+        let L : ℕ → Type 0 = λ n. SendsOutputs owes owed (min n (most version)) (packed_next version a) input sent in
+        subst Is (sym packed) (subst L (sym size) (sends_next owes owed version a input sent chunk s))
     by_waiting false is = subst Is (sym (if_false (length a.waiting == 0) _ _ is)) s
 
 -- ---- `front`
 
-laid_going : {S : Type 0} (version : Option ℕ) (a : AnsweringState S) → (a.closed ≡ true → 0 < length a.waiting) → (laid_on version a).closed ≡ true → 0 < length (laid_on version a).waiting
-laid_going None a going = going
-laid_going {S} (Some version) a going = by_if (length a.waiting == 0) _ _ (by_if (nat_lt 0 (length a.out)) _ _ (behind (written (Stdout (take (next_len version a a.out) a.out))) (omega arith))
+packed_going : {S : Type 0} (version : Option ℕ) (a : AnsweringState S) → (a.closed ≡ true → 0 < length a.waiting) → (packed_on version a).closed ≡ true → 0 < length (packed_on version a).waiting
+packed_going None a going = going
+packed_going {S} (Some version) a going = by_if (length a.waiting == 0) _ _ (by_if (nat_lt 0 (length a.out)) _ _ (behind (written (Stdout (take (next_len version a a.out) a.out))) (omega arith))
     (by_if (nat_lt 0 (length a.err)) _ _ (behind (written (Stderr (take (next_len version a a.err) a.err))) (omega arith)) (by_code a.code))) going
   where
     Goes : AnsweringState S → Type 0
@@ -219,42 +219,42 @@ laid_going {S} (Some version) a going = by_if (length a.waiting == 0) _ _ (by_if
     behind : (ys : List ℕ) → 0 < length ys → a.closed ≡ true → 0 < length (a.waiting ++ ys)
     behind ys some is = longer a.waiting ys some
 
-    by_code : (code : Option ℤ) → Goes (laid_end code a)
+    by_code : (code : Option ℤ) → Goes (packed_end code a)
     by_code None = going
     by_code (Some code) = by_if a.closed _ _ going (λ is. longer a.waiting (end_bytes code) (omega arith))
 
-pub stands_laid : {S : Type 0} (owes : S → List ℕ → Triple) (owed : List ℕ → Triple) (s : ServingState S) (sent : List ℕ) → s.answering.outcome ≡ None → ServingStandsFor owes owed s sent
-    → ServingStandsFor owes owed (record s { answering = laid_on s.answering.version s.answering }) sent
-stands_laid {S} owes owed s sent none stands =
+pub stands_packed : {S : Type 0} (owes : S → List ℕ → Triple) (owed : List ℕ → Triple) (s : ServingState S) (sent : List ℕ) → s.answering.outcome ≡ None → ServingStandsFor owes owed s sent
+    → ServingStandsFor owes owed (record s { answering = packed_on s.answering.version s.answering }) sent
+stands_packed {S} owes owed s sent none stands =
     let a : AnsweringState S = s.answering in
-    let b : AnsweringState S = laid_on a.version a in
-    let same : Same a b = same_laid a.version a in
+    let b : AnsweringState S = packed_on a.version a in
+    let same : Same a b = same_packed a.version a in
     let N : ℕ → Type 0 = λ n. 0 < n in
     let sends : (input : List ℕ) → SendsAnswers owes owed a.version a input sent → SendsAnswers owes owed b.version b input sent = λ input h.
-    let V : Option ℕ → Type 0 = λ v. SendsAnswers owes owed v b input sent in subst V (sym same.version) (sends_laid owes owed a.version a input sent stands.chunk h) in
+    let V : Option ℕ → Type 0 = λ v. SendsAnswers owes owed v b input sent in subst V (sym same.version) (sends_packed owes owed a.version a input sent stands.chunk h) in
     let i : IsServing owes owed s sent = stands.read.goes_on none in
     record {
       chunk = subst N (sym same.chunk) stands.chunk;
       read = record {
         serves = serves_same owes owed a b sent sent same sends _ _ stands.read.serves;
         done = λ code some. let no : None ≡ Some (outcome.Done code) = sym (same.outcome ∙ none) ∙ some in cc;
-        goes_on = λ _. record { undecided = same.outcome ∙ none; at = i.at; going = laid_going a.version a i.going; serves = serves_same owes owed a b sent sent same sends _ _ i.serves };
+        goes_on = λ _. record { undecided = same.outcome ∙ none; at = i.at; going = packed_going a.version a i.going; serves = serves_same owes owed a b sent sent same sends _ _ i.serves };
       };
     }
 
 pub lends_answers : {S : Type 0} (owes : S → List ℕ → Triple) (old inside : ServingState S) (answering : AnsweringState S) (piece : List ℕ) → inside ≡ old
-    → is_some inside.answering.outcome ≡ false → answering ≡ laid_on inside.answering.version inside.answering → piece ≡ answering.waiting
+    → is_some inside.answering.outcome ≡ false → answering ≡ packed_on inside.answering.version inside.answering → piece ≡ answering.waiting
     → LendsAnswers owes old (record inside { answering = answering }) piece
-lends_answers {S} owes old inside answering piece same open_now laid lent =
+lends_answers {S} owes old inside answering piece same open_now packed lent =
     let none : inside.answering.outcome ≡ None = none_if inside.answering.outcome open_now in
     let goes : is_none inside.answering.outcome ≡ true = ap is_none none in
     let P : ServingState S → Type 0 = λ s. LendsAnswers owes s (record inside { answering = answering }) piece in
-    let moves : answering ≡ (if is_none inside.answering.outcome then laid_on inside.answering.version inside.answering else inside.answering)
-    = laid ∙ sym (if_true (is_none inside.answering.outcome) _ _ goes) in
+    let moves : answering ≡ (if is_none inside.answering.outcome then packed_on inside.answering.version inside.answering else inside.answering)
+    = packed ∙ sym (if_true (is_none inside.answering.outcome) _ _ goes) in
     subst P same (record {
       piece_is = lent ∙ sym (if_true (is_none inside.answering.outcome) _ _ goes);
       new_is = λ i. record { inbox = inside.inbox; answering = moves i };
-      stands = λ owed sent h. let Q : AnsweringState S → Type 0 = λ x. ServingStandsFor owes owed (record inside { answering = x }) sent in subst Q (sym laid) (stands_laid owes owed inside sent none h);
+      stands = λ owed sent h. let Q : AnsweringState S → Type 0 = λ x. ServingStandsFor owes owed (record inside { answering = x }) sent in subst Q (sym packed) (stands_packed owes owed inside sent none h);
     })
 
 -- ---- bytes have gone
@@ -396,50 +396,50 @@ still_given a version none greeted (inl some) = absurd (none_is a.outcome none s
 still_given a version none greeted (inr (inl unread)) = let no : None ≡ Some version = sym unread.0 ∙ greeted in cc
 still_given a version none greeted (inr (inr given)) = given
 
-pub still_serving : {S : Type 0} (a : AnsweringState S) → a.outcome ≡ None → (a.closed ≡ true → 0 < length a.waiting) → ((laid_on a.version a).waiting ≡ []) ↔ IsStill a
+pub still_serving : {S : Type 0} (a : AnsweringState S) → a.outcome ≡ None → (a.closed ≡ true → 0 < length a.waiting) → ((packed_on a.version a).waiting ≡ []) ↔ IsStill a
 still_serving {S} a none going = by_version a.version refl
   where
     By : AnsweringState S → Type 0
     By x = (x.waiting ≡ []) ↔ IsStill a
 
-    by_closed : (version : ℕ) (code : ℤ) → a.version ≡ Some version → a.code ≡ Some code → a.waiting ≡ [] → (b : Bool) → a.closed ≡ b → By (laid_end (Some code) a)
+    by_closed : (version : ℕ) (code : ℤ) → a.version ≡ Some version → a.code ≡ Some code → a.waiting ≡ [] → (b : Bool) → a.closed ≡ b → By (packed_end (Some code) a)
     by_closed version code greeted is empty true closed = absurd (some_not a.waiting (going closed) empty)
     by_closed version code greeted is empty false closed =
         subst By (sym (if_false a.closed _ _ closed)) (λ h. absurd (not_empty_lem a.waiting (end_bytes code) (omega arith) h), λ h. let g = still_given a version none greeted h in let no : None ≡ Some code = sym g.unended ∙ is in cc)
 
-    by_code : (version : ℕ) → a.version ≡ Some version → a.waiting ≡ [] → a.out ≡ [] → a.err ≡ [] → (c : Option ℤ) → a.code ≡ c → By (laid_end c a)
+    by_code : (version : ℕ) → a.version ≡ Some version → a.waiting ≡ [] → a.out ≡ [] → a.err ≡ [] → (c : Option ℤ) → a.code ≡ c → By (packed_end c a)
     by_code version greeted empty out err None is = (λ h. inr (inr (record { greeted = ap is_some greeted; out = out; err = err; waits = empty; unended = is })), λ h. empty)
     by_code version greeted empty out err (Some code) is = by_closed version code greeted is empty a.closed refl
 
-    by_err : (version : ℕ) → a.version ≡ Some version → a.waiting ≡ [] → nat_lt 0 (length a.out) ≡ false → (b : Bool) → nat_lt 0 (length a.err) ≡ b → By (laid_next version a)
+    by_err : (version : ℕ) → a.version ≡ Some version → a.waiting ≡ [] → nat_lt 0 (length a.out) ≡ false → (b : Bool) → nat_lt 0 (length a.err) ≡ b → By (packed_next version a)
     by_err version greeted empty out true is =
         subst By (sym (if_false (nat_lt 0 (length a.out)) _ _ out ∙ if_true (nat_lt 0 (length a.err)) _ _ is))
         (λ h. absurd (not_empty_lem a.waiting (written (Stderr (take (next_len version a a.err) a.err))) (omega arith) h), λ h. absurd (some_not a.err (some_bytes a.err is) (still_given a version none greeted h).err))
     by_err version greeted empty out false is =
         subst By (sym (if_false (nat_lt 0 (length a.out)) _ _ out ∙ if_false (nat_lt 0 (length a.err)) _ _ is)) (by_code version greeted empty (no_bytes a.out out) (no_bytes a.err is) a.code refl)
 
-    by_out : (version : ℕ) → a.version ≡ Some version → a.waiting ≡ [] → (b : Bool) → nat_lt 0 (length a.out) ≡ b → By (laid_next version a)
+    by_out : (version : ℕ) → a.version ≡ Some version → a.waiting ≡ [] → (b : Bool) → nat_lt 0 (length a.out) ≡ b → By (packed_next version a)
     by_out version greeted empty true is =
         subst By (sym (if_true (nat_lt 0 (length a.out)) _ _ is))
         (λ h. absurd (not_empty_lem a.waiting (written (Stdout (take (next_len version a a.out) a.out))) (omega arith) h), λ h. absurd (some_not a.out (some_bytes a.out is) (still_given a version none greeted h).out))
     by_out version greeted empty false is = by_err version greeted empty is (nat_lt 0 (length a.err)) refl
 
-    by_waiting : (version : ℕ) → a.version ≡ Some version → (b : Bool) → (length a.waiting == 0) ≡ b → By (laid_on (Some version) a)
+    by_waiting : (version : ℕ) → a.version ≡ Some version → (b : Bool) → (length a.waiting == 0) ≡ b → By (packed_on (Some version) a)
     by_waiting version greeted true empty = subst By (sym (if_true (length a.waiting == 0) _ _ empty)) (by_out version greeted (no_length a.waiting empty) (nat_lt 0 (length a.out)) refl)
     by_waiting version greeted false some = subst By (sym (if_false (length a.waiting == 0) _ _ some)) (λ h. absurd (has_length a.waiting some h), λ h. still_waits a none h)
 
-    by_version : (v : Option ℕ) → a.version ≡ v → By (laid_on a.version a)
-    by_version None is = let V : Option ℕ → Type 0 = λ v. By (laid_on v a) in subst V (sym is) (λ h. inr (inl (is, h)), λ h. still_waits a none h)
-    by_version (Some version) is = let V : Option ℕ → Type 0 = λ v. By (laid_on v a) in subst V (sym is) (by_waiting version is (length a.waiting == 0) refl)
+    by_version : (v : Option ℕ) → a.version ≡ v → By (packed_on a.version a)
+    by_version None is = let V : Option ℕ → Type 0 = λ v. By (packed_on v a) in subst V (sym is) (λ h. inr (inl (is, h)), λ h. still_waits a none h)
+    by_version (Some version) is = let V : Option ℕ → Type 0 = λ v. By (packed_on v a) in subst V (sym is) (by_waiting version is (length a.waiting == 0) refl)
 
 pub lends_nothing : {S : Type 0} (owes : S → List ℕ → Triple) (owed : List ℕ → Triple) (old inside : ServingState S) (answering : AnsweringState S) (piece sent : List ℕ) → inside ≡ old
-    → is_some inside.answering.outcome ≡ false → answering ≡ laid_on inside.answering.version inside.answering → piece ≡ answering.waiting → ServingStandsFor owes owed old sent
+    → is_some inside.answering.outcome ≡ false → answering ≡ packed_on inside.answering.version inside.answering → piece ≡ answering.waiting → ServingStandsFor owes owed old sent
     → (piece ≡ []) ↔ IsStill old.answering
-lends_nothing {S} owes owed old inside answering piece sent same open_now laid lent stands =
+lends_nothing {S} owes owed old inside answering piece sent same open_now packed lent stands =
     let none : inside.answering.outcome ≡ None = none_if inside.answering.outcome open_now in
     let A : ServingState S → Type 0 = λ s. ServingStandsFor owes owed s sent in
     let P : ServingState S → Type 0 = λ s. (piece ≡ []) ↔ IsStill s.answering in
     let s : ServingStandsFor owes owed inside sent = subst A (sym same) stands in
     let h = still_serving inside.answering none (s.read.goes_on none).going in
-    let w : piece ≡ (laid_on inside.answering.version inside.answering).waiting = lent ∙ ap (λ x. x.waiting) laid in
+    let w : piece ≡ (packed_on inside.answering.version inside.answering).waiting = lent ∙ ap (λ x. x.waiting) packed in
     subst P same (λ e. h.0 (sym w ∙ e), λ e. w ∙ h.1 e)

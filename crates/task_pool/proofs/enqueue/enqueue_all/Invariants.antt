@@ -2,9 +2,9 @@ use Rattle.std.proofs.Common.{◌≡◌, ◌≤◌, ◌++◌, [], length}
 use Rattle.std.specs.Vec.Iter.{into_iter_items}
 use Rattle.crossbeam_queue.specs.Passes.{view, IsPassOf, ruled_capacity}
 use Rattle.task_pool.specs.Holding.{holding, all_parts}
-use Rattle.task_pool.proofs.lay.lay_all.Given as goal
+use Rattle.task_pool.proofs.enqueue.enqueue_all.Given as goal
 
--- the tasks so far were laid, at the places below `place`
+-- the tasks so far were enqueued, at the places below `place`
 abbrev pub invariant-loop-task : goal.invariant-loop-task
 invariant-loop-task g l = record {
   can_next : (goal.iterator-loop-task g).can_next l.task-iterator;
