@@ -92,14 +92,14 @@ pub(crate) fn trigger_len(plan: &CallPlan, version: u32) -> usize
     TRIGGER_LEN
 }
 
-// A `u32` is below 2^32.
+// For the proof: a `u32` is below 2^32.
 fn is_u32(number: u32)
     ensures { number < 2 ^ 32 }
 {
     let _number = number;
 }
 
-// No byte of a text is NUL.
+// For the proof: no byte of a text is NUL.
 fn is_text(text: &Text)
     ensures { HasNoNul text.now }
 {

@@ -104,7 +104,7 @@ fn broker_plan(alloc: Global, scenario: &Scenario) -> Result<BrokerPlan, Memory>
     Ok(BrokerPlan { broker, awaited })
 }
 
-// What holds of every scenario. Reading one of its fields gives it to the proof.
+// For the proof: what holds of every scenario.
 pub(crate) fn is_scenario(scenario: &Scenario)
     ensures { IsScenario scenario.now }
 {

@@ -43,8 +43,7 @@ impl Totals {
         self.got = self.got.saturating_add(u64::from(got));
     }
 
-    /// Tells that the counts stay if an own count doesn't move, for a caller whose event moves none. It does
-    /// nothing else.
+    /// For the proof of a caller whose event moves no own count: the counts stay.
     #[inline(always)]
     pub(crate) fn stays(&self)
         ensures sent { (prod : ℕ) → self.now ≡ record self.now { sent = capped (self.now.sent + diff prod prod) } }

@@ -87,10 +87,10 @@ pub made_long : (e : SeatedEnd) (payload buffer : List ℕ) (e' : SeatedEnd) (bu
 made_long e payload buffer e' buffer' result m = ap (λ (xs : List ℕ). length xs) m.3 ∙ landed_length (op_next (seen e payload)) m.0 buffer
 
 -- the same after more events that give no answer
-pub call_along : (was : SeatedEnd) (call : Call) (payload start : List ℕ) (e : SeatedEnd) (buffer : List ℕ) (e' : SeatedEnd) (buffer' : List ℕ) (count : ℕ) → InCalls was call payload start e buffer → e.begun ≡ None →
-    GoesAlong count e.side buffer e'.side buffer' → IsSameEnd e e' → ¬ IsIdle e'.machine → payload_needed e'.machine ≤ payload_needed e.machine → buffer_needed e'.machine ≤ buffer_needed e.machine → e'.begun ≡ None → HasPayload e'.side payload →
+pub call_along : (was : SeatedEnd) (call : Call) (payload start : List ℕ) (e : SeatedEnd) (buffer : List ℕ) (e' : SeatedEnd) (buffer' : List ℕ) → InCalls was call payload start e buffer → e.begun ≡ None →
+    GoesAlong e.side buffer e'.side buffer' → IsSameEnd e e' → ¬ IsIdle e'.machine → payload_needed e'.machine ≤ payload_needed e.machine → buffer_needed e'.machine ≤ buffer_needed e.machine → e'.begun ≡ None → HasPayload e'.side payload →
     InCalls was call payload start e' buffer'
-call_along was call payload start e buffer e' buffer' count i quiet along same busy out into none has =
+call_along was call payload start e buffer e' buffer' i quiet along same busy out into none has =
     record {
       same = (same.0 ∙ i.same.0, same.1 ∙ i.same.1, same.2 ∙ i.same.2, same.3 ∙ i.same.3);
       busy = busy;

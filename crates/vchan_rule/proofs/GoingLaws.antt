@@ -39,9 +39,9 @@ goes_one e payload buffer result e' buffer' ready more m same agrees none has id
       over = λ some. (idle.0 some, none);
     }
 
-pub goes_along : (e : SeatedEnd) (payload buffer : List ℕ) (e' : SeatedEnd) (buffer' : List ℕ) (count : ℕ) → IsReady e payload buffer → e.begun ≡ None → GoesAlong count e.side buffer e'.side buffer' → IsSameEnd e e' → Agrees e'.start None e'.machine e'.side →
+pub goes_along : (e : SeatedEnd) (payload buffer : List ℕ) (e' : SeatedEnd) (buffer' : List ℕ) → IsReady e payload buffer → e.begun ≡ None → GoesAlong e.side buffer e'.side buffer' → IsSameEnd e e' → Agrees e'.start None e'.machine e'.side →
     ¬ IsIdle e'.machine → e'.begun ≡ None → HasPayload e'.side payload → payload_needed e'.machine ≤ payload_needed e.machine → buffer_needed e'.machine ≤ buffer_needed e.machine → Goes e payload buffer None e' buffer'
-goes_along e payload buffer e' buffer' count ready quiet along same agrees busy none has out into =
+goes_along e payload buffer e' buffer' ready quiet along same agrees busy none has out into =
     let agrees' : Agrees e'.start e'.begun e'.machine e'.side = subst (λ (b : Option Call). Agrees e'.start b e'.machine e'.side) (sym none) agrees in
     record {
       same = same;

@@ -168,16 +168,16 @@ impl<'p> End<'p> {
         self.seat.event(words, &mut self.machine, payload, buf)
     }
 
-    /// Makes the events that come next as long as they are on bytes of a ring. Returns how many they were.
+    /// Makes the events that come next as long as they are on bytes of a ring.
     #[inline(always)]
-    fn move_bytes(&mut self, payload: &[u8], buf: &mut [u8]) -> u32
+    fn move_bytes(&mut self, payload: &[u8], buf: &mut [u8])
         requires busy { ¬ IsIdle self.old.machine }
         requires begun { self.old.begun ≡ None }
         requires out { payload_needed self.old.machine ≤ length payload.now }
         requires into { buffer_needed self.old.machine ≤ length buf.old }
         requires payload { HasPayload self.old.side payload.now }
         ensures same { IsSameEnd self.old self.new }
-        ensures along { GoesAlong result self.old.side buf.old self.new.side buf.new }
+        ensures along { GoesAlong self.old.side buf.old self.new.side buf.new }
         ensures busy { ¬ IsIdle self.new.machine }
         ensures begun { self.new.begun ≡ None }
         ensures payload { HasPayload self.new.side payload.now }
@@ -185,7 +185,7 @@ impl<'p> End<'p> {
         ensures into { buffer_needed self.new.machine ≤ buffer_needed self.old.machine }
     {
         let words = self.words.get();
-        self.seat.move_bytes(words, &mut self.machine, payload, buf)
+        self.seat.move_bytes(words, &mut self.machine, payload, buf);
     }
 
     /// Begins a call, and makes its first events on a machine of its own, as long as the compiler can see their

@@ -186,7 +186,7 @@ impl EndSeat {
         machine.took(value)
     }
 
-    /// Makes the events that come next as long as they are on bytes of a ring. Returns how many they were.
+    /// Makes the events that come next as long as they are on bytes of a ring.
     #[inline(always)]
     pub(crate) fn move_bytes(
         &mut self,
@@ -194,13 +194,13 @@ impl EndSeat {
         machine: &mut Machine,
         payload: &[u8],
         buf: &mut [u8],
-    ) -> u32
+    )
         requires words { AreWordsOf words.now.table_id words.now.key self.old }
         requires ready { IsReady (driven words.now.key.start self.old machine.old) payload.now buf.old }
         requires begun { self.old.begun ≡ None }
         ensures words { AreWordsOf words.now.table_id words.now.key self.new }
         ensures same { IsSameEnd (driven words.now.key.start self.old machine.old) (driven words.now.key.start self.new machine.new) }
-        ensures along { GoesAlong result self.old.side buf.old self.new.side buf.new }
+        ensures along { GoesAlong self.old.side buf.old self.new.side buf.new }
         ensures agrees { Agrees words.now.key.start None machine.new self.new.side }
         ensures busy { ¬ IsIdle machine.new }
         ensures begun { self.new.begun ≡ None }
@@ -212,7 +212,6 @@ impl EndSeat {
             Ahead::Puts(span) => {
                 put_bytes(words, &mut self.seat, &self.layout, machine, span, payload);
                 machine.put_all(span);
-                span.count - span.at
             }
             Ahead::Takes(span) => {
                 take_bytes(
@@ -225,9 +224,8 @@ impl EndSeat {
                     buf,
                 );
                 machine.take_all(span);
-                span.count - span.at
             }
-            Ahead::Elsewhere => 0,
+            Ahead::Elsewhere => {}
         }
     }
 

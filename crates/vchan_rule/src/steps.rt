@@ -122,7 +122,7 @@ pub(crate) fn put_bytes(
     ensures seat { (seat.new.table_id ≡ seat.old.table_id) × (seat.new.me ≡ (One (end_in seat.new.me.0), [])) }
     ensures agrees { Agrees words.now.key.start None (put_at machine.now span span.count) (end_in seat.new.me.0) }
     ensures payload { HasPayload (end_in seat.new.me.0) payload.now }
-    ensures along { (buffer : List ℕ) → GoesAlong (span.count - span.at) (end_in seat.old.me.0) buffer (end_in seat.new.me.0) buffer }
+    ensures along { (buffer : List ℕ) → GoesAlong (end_in seat.old.me.0) buffer (end_in seat.new.me.0) buffer }
 {
     let _ = machine;
     let _left = layout.orders.left.size();
@@ -164,7 +164,7 @@ pub(crate) fn take_bytes(
     ensures seat { (seat.new.table_id ≡ seat.old.table_id) × (seat.new.me ≡ (One (end_in seat.new.me.0), [])) }
     ensures agrees { Agrees words.now.key.start None (take_at machine.now span span.count) (end_in seat.new.me.0) }
     ensures payload { HasPayload (end_in seat.new.me.0) payload.now }
-    ensures along { GoesAlong (span.count - span.at) (end_in seat.old.me.0) buf.old (end_in seat.new.me.0) buf.new }
+    ensures along { GoesAlong (end_in seat.old.me.0) buf.old (end_in seat.new.me.0) buf.new }
 {
     let _ = machine;
     let _left = layout.orders.left.size();

@@ -16,12 +16,12 @@ bytes-init c =
     let start = c.args.words.now.key.start in
     let v = end_in c.args.seat.now.me.0 in
     let agrees = subst (λ (m : Machine). Agrees start None m v) r.put.here r.agrees in
-    (omega arith, omega (arith, r.put.more), refl, r.seat.1, λ buffer. moving_none start _ c.args.payload.now v buffer _ (omega arith) agrees r.payload.0)
+    (omega (arith, r.put.more), refl, r.seat.1, λ buffer. moving_none start _ c.args.payload.now v buffer agrees r.payload.0)
 
 pub put_byte-requires-clause-seat : goal.put_byte-requires-clause-seat
 put_byte-requires-clause-seat c =
     let h = c.bytes.invariant in
-    (h.2 ∙ c.requires.seat.0, (end_in c.bytes.seat.me.0, h.3, inl refl), (h.4 []).agrees.own.honest)
+    (h.1 ∙ c.requires.seat.0, (end_in c.bytes.seat.me.0, h.2, inl refl), (h.3 []).agrees.own.honest)
 
 pub put_byte-requires-clause-op : goal.put_byte-requires-clause-op
 put_byte-requires-clause-op c =
@@ -30,7 +30,7 @@ put_byte-requires-clause-op c =
     let h = c.bytes.invariant in
     let next = put_next m c.args.span at c.place-lies.result c.requires.put c.bytes-test.true c.place-lies.ensures.place in
     let low : (k : ℕ) → slice_index c.args.payload.now k < 256 = λ k. let b = c.type_inv.payload k in omega (arith, b) in
-    byte_owed _ (put_at m c.args.span at) (put_at m c.args.span (at + 1)) c.args.payload.now (end_in c.args.seat.now.me.0) [] (at - c.args.span.at) (end_in c.bytes.seat.me.0) [] _ next (h.4 []) low
+    byte_owed _ (put_at m c.args.span at) (put_at m c.args.span (at + 1)) c.args.payload.now (end_in c.args.seat.now.me.0) [] (end_in c.bytes.seat.me.0) [] _ next (h.3 []) low
 
 pub put_byte-requires-clause-payload : goal.put_byte-requires-clause-payload
 put_byte-requires-clause-payload c =
@@ -39,7 +39,7 @@ put_byte-requires-clause-payload c =
     let h = c.bytes.invariant in
     let next = put_next m c.args.span at c.place-lies.result c.requires.put c.bytes-test.true c.place-lies.ensures.place in
     let low : (k : ℕ) → slice_index c.args.payload.now k < 256 = λ k. let b = c.type_inv.payload k in omega (arith, b) in
-    byte_own _ (put_at m c.args.span at) (put_at m c.args.span (at + 1)) c.args.payload.now (end_in c.args.seat.now.me.0) [] (at - c.args.span.at) (end_in c.bytes.seat.me.0) [] _ next (h.4 []) low 0
+    byte_own _ (put_at m c.args.span at) (put_at m c.args.span (at + 1)) c.args.payload.now (end_in c.args.seat.now.me.0) [] (end_in c.bytes.seat.me.0) [] _ next (h.3 []) low 0
 
 pub word-base-requires : goal.word-base-requires
 word-base-requires c = put_has c.args.machine.now c.args.span c.args.layout.now.orders 0 c.requires.put c.requires.page.2 (some_size c.args.span.order)
@@ -61,25 +61,23 @@ bytes-preserved c =
     let next = put_next m c.args.span at c.place-lies.result c.requires.put c.bytes-test.true c.place-lies.ensures.place in
     let low : (k : ℕ) → slice_index c.args.payload.now k < 256 = λ k. let b = c.type_inv.payload k in omega (arith, b) in
     let p = c.put_byte.ensures in (
-      omega (arith, h.0),
       omega (arith, c.bytes-test.true),
-      p.seat ∙ h.2,
+      p.seat ∙ h.1,
       p.event ∙ sym (ap (λ z. (One (end_in z.0), [])) p.event),
-      λ buffer. byte_moved _ (put_at m c.args.span at) (put_at m c.args.span (at + 1)) c.args.payload.now (end_in c.args.seat.now.me.0) buffer (at - c.args.span.at) (end_in c.bytes.seat.me.0) buffer _ next (h.4 buffer) low 0 _ _ (ap (λ z. end_in z.0) p.event) (omega (arith, h.0)),
+      λ buffer. byte_moved _ (put_at m c.args.span at) (put_at m c.args.span (at + 1)) c.args.payload.now (end_in c.args.seat.now.me.0) buffer (end_in c.bytes.seat.me.0) buffer _ next (h.3 buffer) low 0 _ (ap (λ z. end_in z.0) p.event),
     )
 
 -- all bytes are moved
 pub returns-clause-agrees : goal.returns-clause-agrees
 returns-clause-agrees c =
     let h = c.bytes.invariant in
-    let all : c.bytes.at ≡ c.args.span.count = omega (arith, h.1, c.bytes-test.false) in
-    subst (λ (at : ℕ). Agrees c.args.words.now.key.start None (put_at c.args.machine.now c.args.span at) (end_in c.bytes.seat.me.0)) all (h.4 []).agrees
+    let all : c.bytes.at ≡ c.args.span.count = omega (arith, h.0, c.bytes-test.false) in
+    subst (λ (at : ℕ). Agrees c.args.words.now.key.start None (put_at c.args.machine.now c.args.span at) (end_in c.bytes.seat.me.0)) all (h.3 []).agrees
 
 pub returns-clause-payload : goal.returns-clause-payload
-returns-clause-payload c = let h = c.bytes.invariant in (h.4 []).pays
+returns-clause-payload c = let h = c.bytes.invariant in (h.3 []).pays
 
 pub returns-clause-along : goal.returns-clause-along
 returns-clause-along c =
     let h = c.bytes.invariant in
-    let all : c.bytes.at ≡ c.args.span.count = omega (arith, h.1, c.bytes-test.false) in
-    λ buffer. subst (λ (at : ℕ). GoesAlong (at - c.args.span.at) (end_in c.args.seat.now.me.0) buffer (end_in c.bytes.seat.me.0) buffer) all (h.4 buffer).along
+    λ buffer. (h.3 buffer).along

@@ -11,9 +11,9 @@ ghosts-put_byte a = record { before = end_in a.seat.now.me.0; op = Nothing }
 
 abbrev pub invariant-bytes : goal.invariant-bytes
 invariant-bytes l =
-    (l.span.at ≤ l.at) × (l.at ≤ l.span.count)
+    (l.at ≤ l.span.count)
     × (l.seat.table_id ≡ l.initial.seat.table_id) × (l.seat.me ≡ (One (end_in l.seat.me.0), []))
-    × ((buffer : List ℕ) → Moving l.words.key.start (put_at l.machine l.span l.at) l.payload (end_in l.initial.seat.me.0) buffer (l.at - l.span.at) (end_in l.seat.me.0) buffer)
+    × ((buffer : List ℕ) → Moving l.words.key.start (put_at l.machine l.span l.at) l.payload (end_in l.initial.seat.me.0) buffer (end_in l.seat.me.0) buffer)
 
 abbrev pub decreases-bytes : goal.decreases-bytes
 decreases-bytes l = l.span.count - l.at

@@ -16,12 +16,12 @@ bytes-init c =
     let start = c.args.words.now.key.start in
     let v = end_in c.args.seat.now.me.0 in
     let agrees = subst (λ (m : Machine). Agrees start None m v) r.take.here r.agrees in
-    (omega arith, omega (arith, r.take.more), refl, r.seat.1, moving_none start _ c.args.payload.now v c.args.buf.now _ (omega arith) agrees r.payload)
+    (omega (arith, r.take.more), refl, r.seat.1, moving_none start _ c.args.payload.now v c.args.buf.now agrees r.payload)
 
 pub take_byte-value-requires-clause-seat : goal.take_byte-value-requires-clause-seat
 take_byte-value-requires-clause-seat c =
     let h = c.bytes.invariant in
-    (h.2 ∙ c.requires.seat.0, (end_in c.bytes.seat.me.0, h.3, inl refl), h.4.agrees.own.honest)
+    (h.1 ∙ c.requires.seat.0, (end_in c.bytes.seat.me.0, h.2, inl refl), h.3.agrees.own.honest)
 
 pub take_byte-value-requires-clause-op : goal.take_byte-value-requires-clause-op
 take_byte-value-requires-clause-op c =
@@ -30,7 +30,7 @@ take_byte-value-requires-clause-op c =
     let h = c.bytes.invariant in
     let next = take_next m c.args.span at c.place-lies.result c.requires.take c.bytes-test.true c.place-lies.ensures.place in
     let low : (k : ℕ) → slice_index c.args.payload.now k < 256 = λ k. let b = c.type_inv.payload k in omega (arith, b) in
-    byte_owed _ (take_at m c.args.span at) (take_at m c.args.span (at + 1)) c.args.payload.now (end_in c.args.seat.now.me.0) c.args.buf.now (at - c.args.span.at) (end_in c.bytes.seat.me.0) c.bytes.buf _ next h.4 low
+    byte_owed _ (take_at m c.args.span at) (take_at m c.args.span (at + 1)) c.args.payload.now (end_in c.args.seat.now.me.0) c.args.buf.now (end_in c.bytes.seat.me.0) c.bytes.buf _ next h.3 low
 
 pub word-base-requires : goal.word-base-requires
 word-base-requires c = take_has c.args.machine.now c.args.span c.args.layout.now.orders 0 c.requires.take c.requires.page.2 (some_size c.args.span.order)
@@ -52,25 +52,23 @@ bytes-preserved c =
     let next = take_next m c.args.span at c.place-lies.result c.requires.take c.bytes-test.true c.place-lies.ensures.place in
     let low : (k : ℕ) → slice_index c.args.payload.now k < 256 = λ k. let b = c.type_inv.payload k in omega (arith, b) in
     let p = c.take_byte-value.ensures in (
-      omega (arith, h.0),
       omega (arith, c.bytes-test.true),
-      p.seat ∙ h.2,
+      p.seat ∙ h.1,
       p.event ∙ sym (ap (λ z. (One (end_in z.0), [])) p.event),
-      byte_moved _ (take_at m c.args.span at) (take_at m c.args.span (at + 1)) c.args.payload.now (end_in c.args.seat.now.me.0) c.args.buf.now (at - c.args.span.at) (end_in c.bytes.seat.me.0) c.bytes.buf _ next h.4 low c.take_byte-value.result _ _ (ap (λ z. end_in z.0) p.event) (omega (arith, h.0)),
+      byte_moved _ (take_at m c.args.span at) (take_at m c.args.span (at + 1)) c.args.payload.now (end_in c.args.seat.now.me.0) c.args.buf.now (end_in c.bytes.seat.me.0) c.bytes.buf _ next h.3 low c.take_byte-value.result _ (ap (λ z. end_in z.0) p.event),
     )
 
 -- all bytes are moved
 pub returns-clause-agrees : goal.returns-clause-agrees
 returns-clause-agrees c =
     let h = c.bytes.invariant in
-    let all : c.bytes.at ≡ c.args.span.count = omega (arith, h.1, c.bytes-test.false) in
-    subst (λ (at : ℕ). Agrees c.args.words.now.key.start None (take_at c.args.machine.now c.args.span at) (end_in c.bytes.seat.me.0)) all h.4.agrees
+    let all : c.bytes.at ≡ c.args.span.count = omega (arith, h.0, c.bytes-test.false) in
+    subst (λ (at : ℕ). Agrees c.args.words.now.key.start None (take_at c.args.machine.now c.args.span at) (end_in c.bytes.seat.me.0)) all h.3.agrees
 
 pub returns-clause-payload : goal.returns-clause-payload
-returns-clause-payload c = let h = c.bytes.invariant in h.4.pays
+returns-clause-payload c = let h = c.bytes.invariant in h.3.pays
 
 pub returns-clause-along : goal.returns-clause-along
 returns-clause-along c =
     let h = c.bytes.invariant in
-    let all : c.bytes.at ≡ c.args.span.count = omega (arith, h.1, c.bytes-test.false) in
-    subst (λ (at : ℕ). GoesAlong (at - c.args.span.at) (end_in c.args.seat.now.me.0) c.args.buf.now (end_in c.bytes.seat.me.0) c.bytes.buf) all h.4.along
+    h.3.along

@@ -39,7 +39,7 @@ events-preserved g c =
     let made_one = subst (λ (r : Option Answer). MakesOne c.events.self c.args.payload.now c.events.buf c.step.new.self c.step.new.buf r) none e.event in
     let busy : ¬ IsIdle c.step.new.self.machine = λ quiet. false≢true (subst (λ (r : Option Answer). IsSome r) none (e.idle.1 quiet)) in
     let mid = call_on _ _ _ _ c.events.self c.events.buf c.step.new.self c.step.new.buf c.events.invariant e.goes_on made_one e.same busy e.out e.into e.begun e.payload in
-    call_along _ _ _ _ c.step.new.self c.step.new.buf c.move_bytes.new.self c.move_bytes.new.buf c.move_bytes.result mid e.begun m.along m.same m.busy m.out m.into m.begun m.payload
+    call_along _ _ _ _ c.step.new.self c.step.new.buf c.move_bytes.new.self c.move_bytes.new.buf mid e.begun m.along m.same m.busy m.out m.into m.begun m.payload
 
 pub returns-in-Some : goal.returns-in-Some
 returns-in-Some g c =
