@@ -2,3 +2,4 @@
 pub mod StepLaws
 pub mod TurnLaws
 pub mod PlainLaws
+pub mod EndLaws

@@ -8,6 +8,7 @@
 #![tactic(auto)]
 
 mod carry;
+mod ends;
 mod kept;
 mod machine;
 mod phase;

@@ -1,10 +1,10 @@
-ghost use Rattle.std.specs.Prelude.{◌≡◌, ◌≢◌, ℕ, ◌<◌, ◌≤◌, ◌+◌, ◌^◌, ◌∷◌, ◌++◌, [], List, length, take, ◌↔◌, IsSome, IfOk, IsTrue, true, false, not, ◌==◌, slice_index, slice_set};
+ghost use Rattle.std.specs.Prelude.{◌≡◌, ◌≢◌, ℕ, ◌<◌, ◌≤◌, ◌+◌, ◌∷◌, ◌++◌, [], List, length, take, ◌↔◌, IsSome, IfOk, IsTrue, true, false, not, ◌==◌, slice_index, slice_set};
 ghost use Rattle.ring_words.specs.declared.page.Role.TheVariants.{Server, Client};
 
 use crate::carry::carry_out;
+use crate::ends::{End, Ends};
 use crate::machine::Machine;
 use crate::start::start_words;
-use crate::totals::Totals;
 use crate::words::{own_gone, peer_pending};
 use ring_words::{Layout, Orders, Ring, Role, WordName, Words};
 use std::alloc::Global;
@@ -19,23 +19,17 @@ use vchan_protocol::{Answer, Call, EndState};
 #[derive(Drop)]
 pub struct Plain {
     pub(crate) words: Words,
-    pub(crate) server: Machine,
-    pub(crate) client: Machine,
-    pub(crate) left: Totals,
-    pub(crate) right: Totals,
-    server_turned: bool,
-    client_turned: bool,
-    ghost server_orders: { server.orders ≡ words.orders },
-    ghost client_orders: { client.orders ≡ words.orders },
-    ghost server_role: { server.role ≡ Server },
-    ghost client_role: { client.role ≡ Client },
+    pub(crate) ends: Ends,
+    ghost server_orders: { ends.server.machine.orders ≡ words.orders },
+    ghost client_orders: { ends.client.machine.orders ≡ words.orders },
+    ghost server_role: { ends.server.machine.role ≡ Server },
+    ghost client_role: { ends.client.machine.role ≡ Client },
 }
 
 impl Plain {
     ghost use Rattle.vchan_protocol.specs.Table.Apply.{Fits, words_after, value_taken, buffer_after, filled};
-    ghost use Rattle.vchan_protocol.specs.Table.Plan.{after, next_op, past};
-    ghost use Rattle.vchan_protocol.specs.Table.Ends.{Standing, standing_after, own_gone as own_gone_of, peer_pending as peer_pending_of};
-    ghost use Rattle.ring_words.specs.Rings.{diff};
+    ghost use Rattle.vchan_protocol.specs.Table.Plan.{after, past};
+    ghost use Rattle.vchan_protocol.specs.Table.Ends.{Standing, own_gone as own_gone_of, peer_pending as peer_pending_of};
     ghost use Rattle.vchan_protocol.specs.Table.Calls.{plan_of, payload_of, loaded_most, most_events, Trace};
     ghost use Rattle.vchan_core.specs.OneMachine.Phases.{standing, at_phase, rest, rest_at, plan_at, rest_or_answer, IsIdle, Allows, payload_needed, buffer_needed, payload_at, buffer_at, payload_next, buffer_next, Stands, StandsOrAnswered};
     ghost use Rattle.vchan_protocol.specs.History.Core.{Core, opened, begun, event, side_of, writer_of, reader_of, plan_next, answer_in, bytes_loaded};
@@ -50,7 +44,8 @@ impl Plain {
     ghost use Rattle.vchan_core.specs.WholeCall.EventsMade.{MakesEvents};
     ghost use Rattle.vchan_core.specs.WholeCall.Beside.{IsBeside};
     ghost use Rattle.vchan_core.specs.WholeCall.AtPhase.{page_at, page_to};
-    ghost use Rattle.vchan_core.specs.Page.StandsFor.{machine_of, other_of, words_of, orders_of, turned_of, other_turned_of, op_of, StandsFor, HasPayload};
+    ghost use Rattle.vchan_core.specs.Page.Ends.{other_end};
+    ghost use Rattle.vchan_core.specs.Page.StandsFor.{machine_of, other_of, words_of, orders_of, moved_of, turned_of, op_of, StandsFor, HasPayload};
     ghost use Rattle.vchan_protocol.specs.declared.call.Call.{Call};
     ghost use Rattle.vchan_protocol.specs.declared.op.PastEvent.{PastEvent};
 
@@ -70,12 +65,10 @@ impl Plain {
     {
         Ok(Plain {
             words: start_words(alloc, orders, start, said, state)?,
-            server: Machine::new(Role::Server, orders, EndState::Open, start),
-            client: Machine::new(Role::Client, orders, state, start),
-            left: Totals::NONE,
-            right: Totals::NONE,
-            server_turned: false,
-            client_turned: false,
+            ends: Ends {
+                server: End::new(Machine::new(Role::Server, orders, EndState::Open, start)),
+                client: End::new(Machine::new(Role::Client, orders, state, start)),
+            },
         })
     }
 
@@ -91,20 +84,14 @@ impl Plain {
     pub fn machine(&self, who: Role) -> &Machine
         ensures { result.now ≡ machine_of self.now who }
     {
-        match who {
-            Role::Server => &self.server,
-            Role::Client => &self.client,
-        }
+        &self.ends.of(who).machine
     }
 
     /// Returns whether an end was turned over to a hostile user.
     pub fn turned(&self, who: Role) -> bool
         ensures { result ≡ turned_of self.now who }
     {
-        match who {
-            Role::Server => self.server_turned,
-            Role::Client => self.client_turned,
-        }
+        self.ends.of(who).turned
     }
 
     /// Returns whether an end's own gone word is set, as it is after an honest end has retired.
@@ -120,8 +107,8 @@ impl Plain {
         ensures { (core : Core) → StandsFor core self.now → result ≡ capped (length (writer_of core ring).sent) }
     {
         match ring {
-            Ring::Left => self.left.sent(),
-            Ring::Right => self.right.sent(),
+            Ring::Left => self.ends.client.moved.sent(),
+            Ring::Right => self.ends.server.moved.sent(),
         }
     }
 
@@ -131,8 +118,8 @@ impl Plain {
         ensures { (core : Core) → StandsFor core self.now → result ≡ capped (length (reader_of core ring).got) }
     {
         match ring {
-            Ring::Left => self.left.got(),
-            Ring::Right => self.right.got(),
+            Ring::Left => self.ends.server.moved.got(),
+            Ring::Right => self.ends.client.moved.got(),
         }
     }
 
@@ -182,23 +169,12 @@ impl Plain {
         ensures idle { IsIdle (machine_of self.new who) }
         ensures standing { standing (machine_of self.new who) ≡ standing (machine_of self.old who) }
         ensures turned { turned_of self.new who ≡ true }
-        ensures other { other_of self.new who ≡ other_of self.old who }
-        ensures other_turned { other_turned_of self.new who ≡ other_turned_of self.old who }
+        ensures moved { moved_of self.new who ≡ moved_of self.old who }
+        ensures other { other_end self.new.ends who ≡ other_end self.old.ends who }
         ensures words { words_of self.new ≡ words_of self.old }
         ensures orders { orders_of self.new ≡ orders_of self.old }
-        ensures left { self.new.left ≡ self.old.left }
-        ensures right { self.new.right ≡ self.old.right }
     {
-        match who {
-            Role::Server => {
-                self.server.drop_call();
-                self.server_turned = true;
-            }
-            Role::Client => {
-                self.client.drop_call();
-                self.client_turned = true;
-            }
-        }
+        self.ends.of_mut(who).turn();
     }
 
     /// Begins a call of an end, and makes no event. The end must not be turned, and must allow the call.
@@ -215,10 +191,7 @@ impl Plain {
         ensures orders { orders_of self.new ≡ orders_of self.old }
         ensures words { words_of self.new ≡ words_of self.old }
     {
-        match who {
-            Role::Server => self.server.begin(call),
-            Role::Client => self.client.begin(call),
-        }
+        self.ends.of_mut(who).machine.begin(call);
     }
 
     /// Makes one event of an end that is inside a call. Returns the call's answer after its last event.
@@ -250,36 +223,6 @@ impl Plain {
     {
         let op = self.machine(who).next();
         let value = carry_out(&mut self.words, op, payload, buf);
-        match who {
-            Role::Server => Plain::took(&mut self.server, value, &mut self.right, &mut self.left),
-            Role::Client => Plain::took(&mut self.client, value, &mut self.left, &mut self.right),
-        }
-    }
-
-    /// Gives the value of an event to the end that made it, and counts what the event moved: an own index that
-    /// moves on by some bytes shows that many, or releases the places of that many.
-    #[inline(always)]
-    fn took(
-        machine: &mut Machine,
-        value: u64,
-        writes: &mut Totals,
-        reads: &mut Totals,
-    ) -> Option<Answer>
-        requires { ¬ IsIdle machine.old }
-        ensures sent { writes.new ≡ record writes.old { sent = capped (writes.old.sent + diff (standing machine.new).prod (standing machine.old).prod) } }
-        ensures got { reads.new ≡ record reads.old { got = capped (reads.old.got + diff (standing machine.new).cons (standing machine.old).cons) } }
-        ensures low { ((standing machine.old).prod < 2 ^ 32) × ((standing machine.old).cons < 2 ^ 32) }
-        ensures rest { rest_or_answer result machine.new ≡ after (rest machine.old) value }
-        ensures idle { IsSome result ↔ IsIdle machine.new }
-        ensures standing { standing machine.new ≡ standing_after (standing machine.old) (next_op (rest machine.old)) }
-        ensures payload_left { payload_needed machine.new ≤ payload_needed machine.old }
-        ensures buffer_left { buffer_needed machine.new ≤ buffer_needed machine.old }
-        ensures past { (begun : Standing) → (call : Call) → (events : List PastEvent) → Stands begun call events machine.old
-            → StandsOrAnswered begun call (events ++ past (next_op (rest machine.old)) value ∷ []) result machine.new }
-    {
-        let before = machine.counts();
-        let answer = machine.took(value);
-        Totals::count(before, machine.counts(), writes, reads);
-        answer
+        self.ends.of_mut(who).took(value)
     }
 }

@@ -1,6 +1,6 @@
 ghost use Rattle.std.specs.Prelude.{◌≡◌, ◌<◌, ◌≤◌, ◌^◌, ℕ, ◌+◌, ◌∷◌, ◌++◌, [], List, ◌↔◌, IsSome};
 
-/// How many bytes a ring's two ends have moved. Each count stays at its greatest number once it gets there.
+/// How many bytes an end has sent and got. Each count stays at its greatest number once it gets there.
 #[derive(Clone, Copy, Debug)]
 pub struct Totals {
     sent: u64,
@@ -46,8 +46,8 @@ impl Totals {
     /// For the proof of a caller whose event moves no own count: the counts stay.
     #[inline(always)]
     pub(crate) fn stays(&self)
-        ensures sent { (prod : ℕ) → self.now ≡ record self.now { sent = capped (self.now.sent + diff prod prod) } }
-        ensures got { (cons : ℕ) → self.now ≡ record self.now { got = capped (self.now.got + diff cons cons) } }
+        ensures sent { (prod : ℕ) → self.now.sent ≡ capped (self.now.sent + diff prod prod) }
+        ensures got { (cons : ℕ) → self.now.got ≡ capped (self.now.got + diff cons cons) }
     {
         let _sent = self.sent();
         let _got = self.got();
@@ -56,17 +56,12 @@ impl Totals {
     /// Counts how far an end's own counts, of the ring that it writes and of the one that it reads, have moved
     /// on.
     #[inline(always)]
-    pub(crate) fn count(
-        before: (u32, u32),
-        now: (u32, u32),
-        writes: &mut Totals,
-        reads: &mut Totals,
-    )
-        ensures sent { writes.new ≡ record writes.old { sent = capped (writes.old.sent + diff now.0 before.0) } }
-        ensures got { reads.new ≡ record reads.old { got = capped (reads.old.got + diff now.1 before.1) } }
+    pub(crate) fn count(&mut self, before: (u32, u32), now: (u32, u32))
+        ensures sent { self.new.sent ≡ capped (self.old.sent + diff now.0 before.0) }
+        ensures got { self.new.got ≡ capped (self.old.got + diff now.1 before.1) }
         ensures low { (before.0 < 2 ^ 32) × (before.1 < 2 ^ 32) }
     {
-        writes.count_sent(before.0, now.0);
-        reads.count_got(before.1, now.1);
+        self.count_sent(before.0, now.0);
+        self.count_got(before.1, now.1);
     }
 }

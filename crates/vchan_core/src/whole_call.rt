@@ -5,7 +5,6 @@
 //! begins and the bytes of one piece of a ring, and has code of its own for the frequent events. Meanwhile
 //! the machine of the end is as if between two calls: it holds only the end's own counts and its state.
 ghost use Rattle.std.specs.Prelude.{◌≡◌, ◌≢◌, ℕ, ◌<◌, ◌≤◌, ◌+◌, ◌^◌, ◌∷◌, ◌++◌, [], List, length, take, ◌↔◌, IsSome, IfOk, IsTrue, true, false, slice_set};
-ghost use Rattle.ring_words.specs.declared.page.Role.TheVariants.{Server, Client};
 
 use crate::phase::{Next, Phase};
 use crate::plain::Plain;
@@ -40,7 +39,7 @@ impl Plain {
     ghost use Rattle.vchan_core.specs.WholeCall.Beside.{IsBeside};
     ghost use Rattle.vchan_core.specs.WholeCall.AtPhase.{page_at, page_to};
     ghost use Rattle.vchan_core.specs.WholeCall.Stepped.{Advances};
-    ghost use Rattle.vchan_core.specs.Page.StandsFor.{machine_of, other_of, words_of, orders_of, turned_of, other_turned_of, op_of, StandsFor, HasPayload};
+    ghost use Rattle.vchan_core.specs.Page.StandsFor.{machine_of, other_of, words_of, orders_of, turned_of, op_of, StandsFor, HasPayload};
     ghost use Rattle.vchan_protocol.specs.declared.call.Call.{Call};
     ghost use Rattle.vchan_protocol.specs.declared.op.PastEvent.{PastEvent};
 
@@ -53,10 +52,7 @@ impl Plain {
         ensures payload_left { payload_at result ≤ payload_of call }
         ensures buffer_left { buffer_at (read_size (standing (machine_of self.now who))) result ≤ loaded_most (standing (machine_of self.now who)) call }
     {
-        match who {
-            Role::Server => self.server.first(call),
-            Role::Client => self.client.first(call),
-        }
+        self.ends.of(who).machine.first(call)
     }
 
     /// Makes the looks of an end that come next in a write or a read, and that give no answer. Returns how many
@@ -68,10 +64,10 @@ impl Plain {
         ensures events { (payload : List ℕ) → (buffer : List ℕ)
             → MakesEvents result.0 (orders_of self.now) payload (at_phase (machine_of self.now who) phase) (words_of self.now) buffer (at_phase (machine_of self.now who) result.1) (words_of self.now) buffer }
     {
-        match who {
-            Role::Server => self.server.look_ahead(who, phase, &self.words),
-            Role::Client => self.client.look_ahead(who, phase, &self.words),
-        }
+        self.ends
+            .of(who)
+            .machine
+            .look_ahead(who, phase, &self.words)
     }
 
     /// Makes the events of an end that come next as long as they are all on bytes of one piece of a ring.
@@ -91,14 +87,10 @@ impl Plain {
         ensures low { ((standing (machine_of self.old who)).prod < 2 ^ 32) × ((standing (machine_of self.old who)).cons < 2 ^ 32) }
         ensures events { MakesEvents result.0 (orders_of self.old) payload.now (at_phase (machine_of self.old who) phase) (words_of self.old) buf.old (at_phase (machine_of self.old who) result.1) (words_of self.new) buf.new }
     {
-        match who {
-            Role::Server => self
-                .server
-                .move_piece(who, phase, &mut self.words, payload, buf),
-            Role::Client => self
-                .client
-                .move_piece(who, phase, &mut self.words, payload, buf),
-        }
+        self.ends
+            .of(who)
+            .machine
+            .move_piece(who, phase, &mut self.words, payload, buf)
     }
 
     /// Makes [`Plain::look_ahead`] if that makes at most `most` events, and else no look.
@@ -134,14 +126,10 @@ impl Plain {
         ensures low { ((standing (machine_of self.old who)).prod < 2 ^ 32) × ((standing (machine_of self.old who)).cons < 2 ^ 32) }
         ensures events { MakesEvents result.0 (orders_of self.old) payload.now (at_phase (machine_of self.old who) phase) (words_of self.old) buf.old (at_phase (machine_of self.old who) result.1) (words_of self.new) buf.new }
     {
-        match who {
-            Role::Server => self
-                .server
-                .move_few(who, phase, most, &mut self.words, payload, buf),
-            Role::Client => self
-                .client
-                .move_few(who, phase, most, &mut self.words, payload, buf),
-        }
+        self.ends
+            .of(who)
+            .machine
+            .move_few(who, phase, most, &mut self.words, payload, buf)
     }
 
     /// Makes the next events of an end as long as they are looks that give no answer, and then on bytes of one
@@ -183,10 +171,7 @@ impl Plain {
         ensures words { words_of self.new ≡ words_of self.old }
         ensures phase { machine_of self.old who ≡ at_phase (machine_of self.new who) result }
     {
-        match who {
-            Role::Server => self.server.take_phase(),
-            Role::Client => self.client.take_phase(),
-        }
+        self.ends.of_mut(who).machine.take_phase()
     }
 
     /// Puts the phase of an end back into its machine.
@@ -196,10 +181,7 @@ impl Plain {
         ensures words { words_of self.new ≡ words_of self.old }
         ensures phase { machine_of self.new who ≡ at_phase (machine_of self.old who) phase }
     {
-        match who {
-            Role::Server => self.server.set_phase(phase),
-            Role::Client => self.client.set_phase(phase),
-        }
+        self.ends.of_mut(who).machine.set_phase(phase);
     }
 
     /// Makes one event of an end at a phase of its call. Its machine doesn't know of the call; only its own
@@ -218,26 +200,9 @@ impl Plain {
         ensures buffer_left { buffer_next (read_size (standing (machine_of self.new who))) result ≤ buffer_at (read_size (standing (machine_of self.old who))) phase }
         ensures other { other_of self.new who ≡ other_of self.old who }
     {
-        match who {
-            Role::Server => self.server.event(
-                who,
-                phase,
-                &mut self.words,
-                payload,
-                buf,
-                &mut self.right,
-                &mut self.left,
-            ),
-            Role::Client => self.client.event(
-                who,
-                phase,
-                &mut self.words,
-                payload,
-                buf,
-                &mut self.left,
-                &mut self.right,
-            ),
-        }
+        self.ends
+            .of_mut(who)
+            .event(who, phase, &mut self.words, payload, buf)
     }
 
     /// Makes a whole call of an end; `steps` counts its events. The conditions are those of `begin` and `step`.

@@ -21,7 +21,7 @@ use Rattle.vchan_protocol.specs.Honest.Reached.{MayBegin}
 use Rattle.vchan_protocol.specs.Hostile.TurnedLaw.{TurnedLawful}
 use Rattle.vchan_protocol.specs.Always.Invariant.{Invariant}
 use Rattle.vchan_core.proofs.OneMachine.PhaseLaws.{GoesOn_machine}
-use Rattle.vchan_core.proofs.Page.StepLaws.{in_call, plan_left_is}
+use Rattle.vchan_core.proofs.Page.StepLaws.{end_stands, in_call, plan_left_is}
 use Rattle.vchan_core.proofs.WholeCall.RunLaws.{machine_stands}
 use Rattle.vchan_protocol.proofs.History.WholeCallLaws.{length_payload}
 use Rattle.vchan_protocol.proofs.Always.InvariantSteps.{invariant_begun, invariant_event}
@@ -40,8 +40,7 @@ use Rattle.vchan_protocol.proofs.Lists.ListWhole.{tells_lists, follows_lists}
 
 -- if the page tells that an end isn't turned, it isn't
 turned_stands : (core : Core) (page : Plain) (who : Role) → StandsFor core page → turned_of page who ≡ false → (side_of core who).turned ≡ false
-turned_stands core page Server h honest = sym h.server_turned ∙ honest
-turned_stands core page Client h honest = sym h.client_turned ∙ honest
+turned_stands core page who h honest = sym (end_stands core page who h).turned ∙ honest
 
 role_stands : (core : Core) (who : Role) → TurnedLawful core → (side_of core who).role ≡ who
 role_stands core Server h = h.server_end.role_is
@@ -104,6 +103,6 @@ may_call core page who call source h is allows enough bytes =
 pub page_follows_lists : (core : Core) (page : Plain) (who : Role) (call : Call) (source : List ℕ) → Allows (machine_of page who) call → payload_of call ≤ length source → AreBytes source →
     StandsFor core page → Lawful core → FollowsLists core who call (take (payload_of call) source)
 page_follows_lists core page Server call source allows enough bytes h lawful =
-    follows_lists core Server call (take (payload_of call) source) (tells_lists core lawful) (may_call core page Server call source h.server lawful.server_end allows enough bytes)
+    follows_lists core Server call (take (payload_of call) source) (tells_lists core lawful) (may_call core page Server call source h.server.machine lawful.server_end allows enough bytes)
 page_follows_lists core page Client call source allows enough bytes h lawful =
-    follows_lists core Client call (take (payload_of call) source) (tells_lists core lawful) (may_call core page Client call source h.client lawful.client_end allows enough bytes)
+    follows_lists core Client call (take (payload_of call) source) (tells_lists core lawful) (may_call core page Client call source h.client.machine lawful.client_end allows enough bytes)

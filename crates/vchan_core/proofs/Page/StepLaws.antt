@@ -17,6 +17,7 @@ use Rattle.vchan_protocol.specs.declared.call.Answer.{Answer}
 use Rattle.vchan_protocol.specs.declared.call.Answer.TheVariants.{Done}
 use Rattle.vchan_protocol.specs.declared.side.Side.{Side}
 use Rattle.vchan_protocol.specs.declared.side.Begun.{Begun}
+use Rattle.vchan_core.specs.declared.ends.End.{End}
 use Rattle.vchan_core.specs.declared.machine.Machine.{Machine}
 use Rattle.vchan_core.specs.declared.totals.Totals.{Totals}
 use Rattle.vchan_core.specs.declared.phase.Phase.{Phase}
@@ -30,8 +31,10 @@ use Rattle.vchan_protocol.specs.Table.Apply.{words_after, word_of, value_taken}
 use Rattle.vchan_core.specs.OneMachine.Phases.{standing, at_phase, rest, rest_at, plan_at, rest_or_answer, IsIdle}
 use Rattle.vchan_protocol.specs.History.Core.{Core, side_of, event, plan_next, begun_standing, standing_of, standing_along, plan_left, made, settled, answered, answer_in, count_stored, bytes_loaded, sent_stored, sent_after, got_stored, got_after}
 use Rattle.vchan_core.specs.Page.Counts.{capped}
+use Rattle.vchan_core.specs.Page.Ends.{end_of, other_end}
 use Rattle.vchan_core.specs.WholeCall.AtPhase.{page_at, page_to}
-use Rattle.vchan_core.specs.Page.StandsFor.{IsInCall, IsMachineOf, HasPayload, StandsFor, orders_of, words_of}
+use Rattle.vchan_core.specs.WholeCall.EventAt.{sent_on, got_on}
+use Rattle.vchan_core.specs.Page.StandsFor.{IsEndOf, IsInCall, IsMachineOf, HasPayload, StandsFor, machine_of, moved_of, orders_of, turned_of, words_of}
 use Rattle.vchan_protocol.proofs.Table.PlanLaws.{Leads_more, rest_after_Leads}
 use Rattle.vchan_core.proofs.OneMachine.PhaseLaws.{GoesOn_machine}
 use Rattle.vchan_protocol.proofs.Table.Counted.{Counted, OwesIndex, counted_call, counts_within, Counted_Leads}
@@ -155,15 +158,15 @@ got_grows _ _ now trail got s value low few owes = stays got now.cons
 
 -- ---- an event of a page
 
--- what the code of one event does: to the machine, to the words, and to the counts of its two rings
-pub record DoesEvent (orders : Orders) (words source : List ℕ) (m m' : Machine) (result : Option Answer) (words' : List ℕ) (writes reads writes' reads' : Totals) : Type 0 where
+-- what the code of one event does: to the machine, to the words, and to what the end has moved
+pub record DoesEvent (orders : Orders) (words source : List ℕ) (m m' : Machine) (result : Option Answer) (words' : List ℕ) (moved moved' : Totals) : Type 0 where
   pub busy : ¬ IsIdle m
   pub leads : rest_or_answer result m' ≡ after (rest m) (value_taken orders words (next_op (rest m)))
   pub idle : IsSome result ↔ IsIdle m'
   pub stands : standing m' ≡ standing_after (standing m) (next_op (rest m))
   pub words_are : words' ≡ words_after orders words source (next_op (rest m))
-  pub writes_are : writes' ≡ record writes { sent = capped (writes.sent + diff (standing m').prod (standing m).prod) }
-  pub reads_are : reads' ≡ record reads { got = capped (reads.got + diff (standing m').cons (standing m).cons) }
+  pub sent_is : moved'.sent ≡ sent_on moved m m'
+  pub got_is : moved'.got ≡ got_on moved m m'
   pub low : ((standing m).prod < 2 ^ 32) × ((standing m).cons < 2 ^ 32)
 
 -- fewer than 2 ^ 32 bytes are moved, and no more than the payload has
@@ -174,14 +177,14 @@ few_moved s m c =
     let small = most_small e c.begun.call in
     (omega (arith, moved.0, c.pays, stored_most_payload e c.begun.call), omega (arith, moved.0, small.0), omega (arith, moved.1, small.1))
 
-pub side_steps : (orders : Orders) (words source : List ℕ) (s : Side) (m m' : Machine) (result : Option Answer) (words' : List ℕ) (writes reads writes' reads' : Totals) →
-    IsMachineOf s m → DoesEvent orders words source m m' result words' writes reads writes' reads' → IsMachineOf (side_by orders words s (rest m)) m'
-side_steps orders words source s m m' result words' writes reads writes' reads' h d =
+pub side_steps : (orders : Orders) (words source : List ℕ) (s : Side) (m m' : Machine) (result : Option Answer) (words' : List ℕ) (moved moved' : Totals) →
+    IsMachineOf s m → DoesEvent orders words source m m' result words' moved moved' → IsMachineOf (side_by orders words s (rest m)) m'
+side_steps orders words source s m m' result words' moved moved' h d =
     made_stands s m m' result (value_taken orders words (next_op (rest m))) h d.busy d.leads d.idle d.stands
 
-pub words_step : (orders : Orders) (words source : List ℕ) (s : Side) (m m' : Machine) (result : Option Answer) (words' : List ℕ) (writes reads writes' reads' : Totals) →
-    IsMachineOf s m → HasPayload s source → DoesEvent orders words source m m' result words' writes reads writes' reads' → words' ≡ words_after orders words s.payload (next_op (rest m))
-words_step orders words source s m m' result words' writes reads writes' reads' h has d =
+pub words_step : (orders : Orders) (words source : List ℕ) (s : Side) (m m' : Machine) (result : Option Answer) (words' : List ℕ) (moved moved' : Totals) →
+    IsMachineOf s m → HasPayload s source → DoesEvent orders words source m m' result words' moved moved' → words' ≡ words_after orders words s.payload (next_op (rest m))
+words_step orders words source s m m' result words' moved moved' h has d =
     let c = in_call s m h d.busy in
     d.words_are ∙ words_same s c.begun orders words source (next_op (rest m)) c.pays has (owed s m c d.busy)
 
@@ -207,95 +210,81 @@ got_of s b (And word bits) owes low few = stays s.got s.cons
 got_of s b (Swap word value) owes low few = stays s.got s.cons
 got_of s b Nothing owes low few = stays s.got s.cons
 
-pub sent_step : (orders : Orders) (words source : List ℕ) (s : Side) (m m' : Machine) (result : Option Answer) (words' : List ℕ) (writes reads writes' reads' : Totals) →
-    IsMachineOf s m → DoesEvent orders words source m m' result words' writes reads writes' reads' → writes.sent ≡ capped (length s.sent) →
-    writes'.sent ≡ capped (length (side_by orders words s (rest m)).sent)
-sent_step orders words source s m m' result words' writes reads writes' reads' h d was =
+pub sent_step : (orders : Orders) (words source : List ℕ) (s : Side) (m m' : Machine) (result : Option Answer) (words' : List ℕ) (moved moved' : Totals) →
+    IsMachineOf s m → DoesEvent orders words source m m' result words' moved moved' → moved.sent ≡ capped (length s.sent) →
+    moved'.sent ≡ capped (length (side_by orders words s (rest m)).sent)
+sent_step orders words source s m m' result words' moved moved' h d was =
     let c = in_call s m h d.busy in
     let op = next_op (rest m) in
     let few = few_moved s m c in
     let same : standing m ≡ standing_of s = h.standing_is in
     let low : s.prod < 2 ^ 32 = subst (λ (e : Standing). e.prod < 2 ^ 32) same d.low.0 in
     let then_prod : (standing m').prod ≡ prod_after op s.role s.prod = ap (λ (e : Standing). e.prod) d.stands ∙ ap (λ (e : Standing). (standing_after e op).prod) same ∙ prod_after_lem (standing_of s) op in
-    ap (λ (w : Totals). w.sent) d.writes_are
+    d.sent_is
     ∙ ap (λ (n : ℕ). capped (n + diff (standing m').prod (standing m).prod)) was
     ∙ ap (λ (n : ℕ). capped (capped (length s.sent) + diff n (standing m).prod)) then_prod
     ∙ ap (λ (e : Standing). capped (capped (length s.sent) + diff (prod_after op s.role s.prod) e.prod)) same
     ∙ sent_of s c.begun op (owed s m c d.busy) low few.0 few.1
     ∙ ap (λ (xs : List ℕ). capped (length xs)) (sym (settled_sent (made s op (value_taken orders words op)) (after (rest m) (value_taken orders words op))))
 
-pub got_step : (orders : Orders) (words source : List ℕ) (s : Side) (m m' : Machine) (result : Option Answer) (words' : List ℕ) (writes reads writes' reads' : Totals) →
-    IsMachineOf s m → DoesEvent orders words source m m' result words' writes reads writes' reads' → reads.got ≡ capped (length s.got) →
-    reads'.got ≡ capped (length (side_by orders words s (rest m)).got)
-got_step orders words source s m m' result words' writes reads writes' reads' h d was =
+pub got_step : (orders : Orders) (words source : List ℕ) (s : Side) (m m' : Machine) (result : Option Answer) (words' : List ℕ) (moved moved' : Totals) →
+    IsMachineOf s m → DoesEvent orders words source m m' result words' moved moved' → moved.got ≡ capped (length s.got) →
+    moved'.got ≡ capped (length (side_by orders words s (rest m)).got)
+got_step orders words source s m m' result words' moved moved' h d was =
     let c = in_call s m h d.busy in
     let op = next_op (rest m) in
     let few = few_moved s m c in
     let same : standing m ≡ standing_of s = h.standing_is in
     let low : s.cons < 2 ^ 32 = subst (λ (e : Standing). e.cons < 2 ^ 32) same d.low.1 in
     let then_cons : (standing m').cons ≡ cons_after op s.role s.cons = ap (λ (e : Standing). e.cons) d.stands ∙ ap (λ (e : Standing). (standing_after e op).cons) same ∙ cons_after_lem (standing_of s) op in
-    ap (λ (w : Totals). w.got) d.reads_are
+    d.got_is
     ∙ ap (λ (n : ℕ). capped (n + diff (standing m').cons (standing m).cons)) was
     ∙ ap (λ (n : ℕ). capped (capped (length s.got) + diff n (standing m).cons)) then_cons
     ∙ ap (λ (e : Standing). capped (capped (length s.got) + diff (cons_after op s.role s.cons) e.cons)) same
     ∙ got_of s c.begun op (owed s m c d.busy) low few.2
     ∙ ap (λ (xs : List ℕ). capped (length xs)) (sym (settled_got (made s op (value_taken orders words op)) (after (rest m) (value_taken orders words op))))
 
--- ---- the page after an event of its server, and of its client
+-- ---- the page after an event of an end
 
 pub event_by_lem : (core : Core) (who : Role) (m : Machine) → InCall (side_of core who) m → event core who ≡ event_by core who (rest m)
 unfolding event
 event_by_lem core who m c = ap (λ (plan : Plan). event_by core who plan) (plan_left_is (side_of core who) m c)
 
-pub stands_server : (core : Core) (page page' : Plain) (source : List ℕ) (result : Option Answer) → StandsFor core page → HasPayload core.server source →
-    DoesEvent (orders_of page) (words_of page) source page.server page'.server result (words_of page') page.right page.left page'.right page'.left →
-    orders_of page' ≡ orders_of page → page'.client ≡ page.client → page'.server_turned ≡ page.server_turned → page'.client_turned ≡ page.client_turned →
-    StandsFor (event core Server) page'
-stands_server core page page' source result h has d orders other server_turned client_turned =
-    let here : DoesEvent core.orders core.words source page.server page'.server result (words_of page') page.right page.left page'.right page'.left =
-    subst (λ (o : Orders). DoesEvent o core.words source page.server page'.server result (words_of page') page.right page.left page'.right page'.left) h.orders
-    (subst (λ (w : List ℕ). DoesEvent (orders_of page) w source page.server page'.server result (words_of page') page.right page.left page'.right page'.left) h.words d) in
-    subst (λ (k : Core). StandsFor k page') (sym (event_by_lem core Server page.server (in_call core.server page.server h.server d.busy))) (record {
-      orders = orders ∙ h.orders;
-      words = words_step core.orders core.words source core.server page.server page'.server result (words_of page') page.right page.left page'.right page'.left h.server has here;
-      server = side_steps core.orders core.words source core.server page.server page'.server result (words_of page') page.right page.left page'.right page'.left h.server here;
-      client = subst (λ (m : Machine). IsMachineOf core.client m) (sym other) h.client;
-      left = record {
-        sent = ap (λ (w : Totals). w.sent) here.reads_are ∙ h.left.sent;
-        got = got_step core.orders core.words source core.server page.server page'.server result (words_of page') page.right page.left page'.right page'.left h.server here h.left.got;
-      };
-      right = record {
-        sent = sent_step core.orders core.words source core.server page.server page'.server result (words_of page') page.right page.left page'.right page'.left h.server here h.right.sent;
-        got = ap (λ (w : Totals). w.got) here.writes_are ∙ h.right.got;
-      };
-      server_turned = server_turned ∙ h.server_turned ∙ sym (settled_turned (made core.server (next_op (rest page.server)) (value_taken core.orders core.words (next_op (rest page.server)))) (after (rest page.server) (value_taken core.orders core.words (next_op (rest page.server)))));
-      client_turned = client_turned ∙ h.client_turned;
-    })
+-- the end after its event
+end_steps : (core : Core) (s : Side) (e e' : End) (source : List ℕ) (result : Option Answer) (words' : List ℕ) → IsEndOf s e → DoesEvent core.orders core.words source e.machine e'.machine result words' e.moved e'.moved → e'.turned ≡ e.turned →
+    IsEndOf (side_by core.orders core.words s (rest e.machine)) e'
+end_steps core s e e' source result words' h d turned = record {
+  machine = side_steps core.orders core.words source s e.machine e'.machine result words' e.moved e'.moved h.machine d;
+  sent = sent_step core.orders core.words source s e.machine e'.machine result words' e.moved e'.moved h.machine d h.sent;
+  got = got_step core.orders core.words source s e.machine e'.machine result words' e.moved e'.moved h.machine d h.got;
+  turned = turned ∙ h.turned ∙ sym (settled_turned (made s (next_op (rest e.machine)) (value_taken core.orders core.words (next_op (rest e.machine)))) (after (rest e.machine) (value_taken core.orders core.words (next_op (rest e.machine)))));
+}
 
-pub stands_client : (core : Core) (page page' : Plain) (source : List ℕ) (result : Option Answer) → StandsFor core page → HasPayload core.client source →
-    DoesEvent (orders_of page) (words_of page) source page.client page'.client result (words_of page') page.left page.right page'.left page'.right →
-    orders_of page' ≡ orders_of page → page'.server ≡ page.server → page'.server_turned ≡ page.server_turned → page'.client_turned ≡ page.client_turned →
-    StandsFor (event core Client) page'
-stands_client core page page' source result h has d orders other server_turned client_turned =
-    let here : DoesEvent core.orders core.words source page.client page'.client result (words_of page') page.left page.right page'.left page'.right =
-    subst (λ (o : Orders). DoesEvent o core.words source page.client page'.client result (words_of page') page.left page.right page'.left page'.right) h.orders
-    (subst (λ (w : List ℕ). DoesEvent (orders_of page) w source page.client page'.client result (words_of page') page.left page.right page'.left page'.right) h.words d) in
-    subst (λ (k : Core). StandsFor k page') (sym (event_by_lem core Client page.client (in_call core.client page.client h.client d.busy))) (record {
-      orders = orders ∙ h.orders;
-      words = words_step core.orders core.words source core.client page.client page'.client result (words_of page') page.left page.right page'.left page'.right h.client has here;
-      server = subst (λ (m : Machine). IsMachineOf core.server m) (sym other) h.server;
-      client = side_steps core.orders core.words source core.client page.client page'.client result (words_of page') page.left page.right page'.left page'.right h.client here;
-      left = record {
-        sent = sent_step core.orders core.words source core.client page.client page'.client result (words_of page') page.left page.right page'.left page'.right h.client here h.left.sent;
-        got = ap (λ (w : Totals). w.got) here.writes_are ∙ h.left.got;
-      };
-      right = record {
-        sent = ap (λ (w : Totals). w.sent) here.reads_are ∙ h.right.sent;
-        got = got_step core.orders core.words source core.client page.client page'.client result (words_of page') page.left page.right page'.left page'.right h.client here h.right.got;
-      };
-      server_turned = server_turned ∙ h.server_turned;
-      client_turned = client_turned ∙ h.client_turned ∙ sym (settled_turned (made core.client (next_op (rest page.client)) (value_taken core.orders core.words (next_op (rest page.client)))) (after (rest page.client) (value_taken core.orders core.words (next_op (rest page.client)))));
-    })
+pub end_stands : (core : Core) (page : Plain) (who : Role) → StandsFor core page → IsEndOf (side_of core who) (end_of page.ends who)
+end_stands core page Server h = h.server
+end_stands core page Client h = h.client
+
+pub stands_on : (core : Core) (who : Role) (page page' : Plain) (source : List ℕ) (result : Option Answer) → StandsFor core page → HasPayload (side_of core who) source →
+    DoesEvent (orders_of page) (words_of page) source (machine_of page who) (machine_of page' who) result (words_of page') (moved_of page who) (moved_of page' who) →
+    orders_of page' ≡ orders_of page → turned_of page' who ≡ turned_of page who → other_end page'.ends who ≡ other_end page.ends who →
+    StandsFor (event core who) page'
+stands_on core who page page' source result h has d orders turned other =
+    let e = end_of page.ends who in
+    let e' = end_of page'.ends who in
+    let s = side_of core who in
+    let is = end_stands core page who h in
+    let here : DoesEvent core.orders core.words source e.machine e'.machine result (words_of page') e.moved e'.moved =
+    subst (λ (o : Orders). DoesEvent o core.words source e.machine e'.machine result (words_of page') e.moved e'.moved) h.orders
+    (subst (λ (w : List ℕ). DoesEvent (orders_of page) w source e.machine e'.machine result (words_of page') e.moved e'.moved) h.words d) in
+    subst (λ (k : Core). StandsFor k page') (sym (event_by_lem core who e.machine (in_call s e.machine is.machine d.busy)))
+    (stands_by core who page page' e.machine (orders ∙ h.orders)
+    (words_step core.orders core.words source s e.machine e'.machine result (words_of page') e.moved e'.moved is.machine has here)
+    (end_steps core s e e' source result (words_of page') is here turned) h other)
+  where
+    stands_by : (core : Core) (who : Role) (page page' : Plain) (m : Machine) → orders_of page' ≡ core.orders → words_of page' ≡ words_after core.orders core.words (side_of core who).payload (next_op (rest m)) →
+        IsEndOf (side_by core.orders core.words (side_of core who) (rest m)) (end_of page'.ends who) → StandsFor core page → other_end page'.ends who ≡ other_end page.ends who → StandsFor (event_by core who (rest m)) page'
+    stands_by core Server page page' m orders words is h other = record { orders = orders; words = words; server = is; client = subst (λ (e : End). IsEndOf core.client e) (sym other) h.client }
+    stands_by core Client page page' m orders words is h other = record { orders = orders; words = words; server = subst (λ (e : End). IsEndOf core.server e) (sym other) h.server; client = is }
 
 -- the answer of a step is what is left of the end's call
 pub answer_in_rest : (m' : Machine) (result : Option Answer) → (IsSome result ↔ IsIdle m') → answer_in (rest_or_answer result m') ≡ result
@@ -323,62 +312,57 @@ counts_on result was from x y before then_after xs ys low_x low_y from_is is =
     is ∙ ap (λ (n : ℕ). min (was + n) 18446744073709551615) (from_is ∙ diff_wraps x y low_x low_y ∙ ap (λ (n : ℕ). diff n y) xs ∙ ap (λ (n : ℕ). diff then_after n) ys)
 
 -- what a machine does at a phase that its page doesn't know of
-pub record DoesAt (orders : Orders) (words source : List ℕ) (m m' : Machine) (phase : Phase) (move : Next) (words' : List ℕ) (writes reads writes' reads' : Totals) : Type 0 where
+pub record DoesAt (orders : Orders) (words source : List ℕ) (m m' : Machine) (phase : Phase) (move : Next) (words' : List ℕ) (moved moved' : Totals) : Type 0 where
   pub leads : plan_at (standing m') move ≡ after (rest_at (standing m) phase) (value_taken orders words (next_op (rest_at (standing m) phase)))
   pub idle : IsIdle m'
   pub stands : standing m' ≡ standing_after (standing m) (next_op (rest_at (standing m) phase))
   pub words_are : words' ≡ words_after orders words source (next_op (rest_at (standing m) phase))
-  pub writes_are : writes' ≡ record writes { sent = capped (writes.sent + diff (standing m').prod (standing m).prod) }
-  pub reads_are : reads' ≡ record reads { got = capped (reads.got + diff (standing m').cons (standing m).cons) }
+  pub sent_is : moved'.sent ≡ sent_on moved m m'
+  pub got_is : moved'.got ≡ got_on moved m m'
   pub low : ((standing m).prod < 2 ^ 32) × ((standing m).cons < 2 ^ 32)
 
-does_to : (orders : Orders) (words source : List ℕ) (m m' : Machine) (phase next : Phase) (words' : List ℕ) (writes reads writes' reads' : Totals) →
-    DoesAt orders words source m m' phase (To next) words' writes reads writes' reads' → DoesEvent orders words source (at_phase m phase) (at_phase m' next) None words' writes reads writes' reads'
-does_to orders words source m m' phase next words' writes reads writes' reads' d = record {
+does_to : (orders : Orders) (words source : List ℕ) (m m' : Machine) (phase next : Phase) (words' : List ℕ) (moved moved' : Totals) →
+    DoesAt orders words source m m' phase (To next) words' moved moved' → DoesEvent orders words source (at_phase m phase) (at_phase m' next) None words' moved moved'
+does_to orders words source m m' phase next words' moved moved' d = record {
   busy = λ idle. false≢true (sym idle);
   leads = d.leads;
   idle = (λ some. absurd (false≢true some), λ quiet. absurd (false≢true (sym quiet)));
   stands = d.stands;
   words_are = d.words_are;
-  writes_are = d.writes_are;
-  reads_are = d.reads_are;
+  sent_is = d.sent_is;
+  got_is = d.got_is;
   low = d.low;
 }
 
-does_last : (orders : Orders) (words source : List ℕ) (m m' : Machine) (phase : Phase) (answer : Answer) (words' : List ℕ) (writes reads writes' reads' : Totals) →
-    DoesAt orders words source m m' phase (Ended answer) words' writes reads writes' reads' → DoesEvent orders words source (at_phase m phase) m' (Some answer) words' writes reads writes' reads'
-does_last orders words source m m' phase answer words' writes reads writes' reads' d = record {
+does_last : (orders : Orders) (words source : List ℕ) (m m' : Machine) (phase : Phase) (answer : Answer) (words' : List ℕ) (moved moved' : Totals) →
+    DoesAt orders words source m m' phase (Ended answer) words' moved moved' → DoesEvent orders words source (at_phase m phase) m' (Some answer) words' moved moved'
+does_last orders words source m m' phase answer words' moved moved' d = record {
   busy = λ idle. false≢true (sym idle);
   leads = d.leads;
   idle = (λ some. d.idle, λ quiet. refl);
   stands = d.stands;
   words_are = d.words_are;
-  writes_are = d.writes_are;
-  reads_are = d.reads_are;
+  sent_is = d.sent_is;
+  got_is = d.got_is;
   low = d.low;
 }
 
-pub stands_server_at : (core : Core) (page page' : Plain) (source : List ℕ) (phase : Phase) (move : Next) → StandsFor core (page_at page Server phase) → HasPayload core.server source →
-    DoesAt (orders_of page) (words_of page) source page.server page'.server phase move (words_of page') page.right page.left page'.right page'.left →
-    orders_of page' ≡ orders_of page → page'.client ≡ page.client → page'.server_turned ≡ page.server_turned → page'.client_turned ≡ page.client_turned →
-    StandsFor (event core Server) (page_to page' Server move)
-stands_server_at core page page' source phase (To next) h has d orders other server_turned client_turned =
-    stands_server core (page_at page Server phase) (page_at page' Server next) source None h has
-    (does_to (orders_of page) (words_of page) source page.server page'.server phase next (words_of page') page.right page.left page'.right page'.left d) orders other server_turned client_turned
-stands_server_at core page page' source phase (Ended answer) h has d orders other server_turned client_turned =
-    stands_server core (page_at page Server phase) page' source (Some answer) h has
-    (does_last (orders_of page) (words_of page) source page.server page'.server phase answer (words_of page') page.right page.left page'.right page'.left d) orders other server_turned client_turned
-
-pub stands_client_at : (core : Core) (page page' : Plain) (source : List ℕ) (phase : Phase) (move : Next) → StandsFor core (page_at page Client phase) → HasPayload core.client source →
-    DoesAt (orders_of page) (words_of page) source page.client page'.client phase move (words_of page') page.left page.right page'.left page'.right →
-    orders_of page' ≡ orders_of page → page'.server ≡ page.server → page'.server_turned ≡ page.server_turned → page'.client_turned ≡ page.client_turned →
-    StandsFor (event core Client) (page_to page' Client move)
-stands_client_at core page page' source phase (To next) h has d orders other server_turned client_turned =
-    stands_client core (page_at page Client phase) (page_at page' Client next) source None h has
-    (does_to (orders_of page) (words_of page) source page.client page'.client phase next (words_of page') page.left page.right page'.left page'.right d) orders other server_turned client_turned
-stands_client_at core page page' source phase (Ended answer) h has d orders other server_turned client_turned =
-    stands_client core (page_at page Client phase) page' source (Some answer) h has
-    (does_last (orders_of page) (words_of page) source page.client page'.client phase answer (words_of page') page.left page.right page'.left page'.right d) orders other server_turned client_turned
+pub stands_at : (core : Core) (who : Role) (page page' : Plain) (source : List ℕ) (phase : Phase) (move : Next) → StandsFor core (page_at page who phase) → HasPayload (side_of core who) source →
+    DoesAt (orders_of page) (words_of page) source (machine_of page who) (machine_of page' who) phase move (words_of page') (moved_of page who) (moved_of page' who) →
+    orders_of page' ≡ orders_of page → turned_of page' who ≡ turned_of page who → other_end page'.ends who ≡ other_end page.ends who →
+    StandsFor (event core who) (page_to page' who move)
+stands_at core Server page page' source phase (To next) h has d orders turned other =
+    stands_on core Server (page_at page Server phase) (page_at page' Server next) source None h has
+    (does_to (orders_of page) (words_of page) source (machine_of page Server) (machine_of page' Server) phase next (words_of page') (moved_of page Server) (moved_of page' Server) d) orders turned other
+stands_at core Client page page' source phase (To next) h has d orders turned other =
+    stands_on core Client (page_at page Client phase) (page_at page' Client next) source None h has
+    (does_to (orders_of page) (words_of page) source (machine_of page Client) (machine_of page' Client) phase next (words_of page') (moved_of page Client) (moved_of page' Client) d) orders turned other
+stands_at core Server page page' source phase (Ended answer) h has d orders turned other =
+    stands_on core Server (page_at page Server phase) page' source (Some answer) h has
+    (does_last (orders_of page) (words_of page) source (machine_of page Server) (machine_of page' Server) phase answer (words_of page') (moved_of page Server) (moved_of page' Server) d) orders turned other
+stands_at core Client page page' source phase (Ended answer) h has d orders turned other =
+    stands_on core Client (page_at page Client phase) page' source (Some answer) h has
+    (does_last (orders_of page) (words_of page) source (machine_of page Client) (machine_of page' Client) phase answer (words_of page') (moved_of page Client) (moved_of page' Client) d) orders turned other
 
 pub keeps_orders : (m m' : Machine) (op : Op) → standing m' ≡ standing_after (standing m) op → m'.orders ≡ m.orders
 unfolding standing_after

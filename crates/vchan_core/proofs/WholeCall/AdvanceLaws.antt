@@ -8,6 +8,7 @@ use Rattle.vchan_protocol.specs.declared.op.PastEvent.{PastEvent}
 use Rattle.vchan_protocol.specs.declared.call.Answer.{Answer}
 use Rattle.vchan_protocol.specs.declared.side.Begun.{Begun}
 use Rattle.vchan_protocol.specs.declared.side.Side.{Side}
+use Rattle.vchan_core.specs.declared.ends.End.{End}
 use Rattle.vchan_core.specs.declared.machine.Machine.{Machine}
 use Rattle.vchan_core.specs.declared.plain.Plain.{Plain}
 use Rattle.vchan_core.specs.declared.phase.Phase.{Phase}
@@ -223,8 +224,8 @@ pub record InAdvance (first : Plain) (who : Role) (all : ℕ) (source start : Li
 
 -- the page at its phase, which was taken out of the machine
 page_taken : (first : Plain) (who : Role) (page : Plain) (phase : Phase) → IsBeside who first page → machine_of first who ≡ at_phase (machine_of page who) phase → IsBeside who first (page_at page who phase) × (machine_of (page_at page who phase) who ≡ machine_of first who) × (words_of (page_at page who phase) ≡ words_of page)
-page_taken first Server page phase b is = (record { same = b.same; orders = b.orders; other = b.other; turned = b.turned; other_turned = b.other_turned; left = b.left; right = b.right }, sym is, refl)
-page_taken first Client page phase b is = (record { same = b.same; orders = b.orders; other = b.other; turned = b.turned; other_turned = b.other_turned; left = b.left; right = b.right }, sym is, refl)
+page_taken first Server page phase b is = (record { same = b.same; orders = b.orders; moved = b.moved; turned = b.turned; other = b.other }, sym is, refl)
+page_taken first Client page phase b is = (record { same = b.same; orders = b.orders; moved = b.moved; turned = b.turned; other = b.other }, sym is, refl)
 
 payload_taken : (m m' : Machine) (phase : Phase) → m ≡ at_phase m' phase → payload_at phase ≤ payload_needed m
 payload_taken m m' phase is = subst (λ (x : Machine). payload_at phase ≤ payload_needed x) (sym is) (omega arith)
@@ -240,7 +241,7 @@ advance_first first who all source start page phase idle beside words is =
       idle = idle;
       payload_left = payload_taken (machine_of first who) (machine_of page who) phase is;
       buffer_left = buffer_taken (machine_of first who) (machine_of page who) phase is;
-      other = beside.other;
+      other = ap (λ (e : End). e.machine) beside.other;
       long = refl;
       on = λ core h has. record {
         now = core;
@@ -259,12 +260,12 @@ moved_at : (who : Role) (n : ℕ) (source : List ℕ) (page page' : Plain) (phas
     MakesEvents n (orders_of page) source (at_phase (machine_of page who) phase) (words_of page) buffer (at_phase (machine_of page who) phase') (words_of page') buffer' →
     IsBeside who (page_at page who phase) (page_at page' who phase') × MakesEvents n (orders_of (page_at page who phase)) source (machine_of (page_at page who phase) who) (words_of (page_at page who phase)) buffer (machine_of (page_at page' who phase') who) (words_of (page_at page' who phase')) buffer'
 moved_at Server n source page page' phase phase' buffer buffer' b same d = (
-  record { same = b.same; orders = b.orders; other = b.other; turned = b.turned; other_turned = b.other_turned; left = b.left; right = b.right },
-  subst (λ (m : Machine). MakesEvents n (orders_of page) source (at_phase page.server phase) (words_of page) buffer (at_phase m phase') (words_of page') buffer') (sym same) d,
+  record { same = b.same; orders = b.orders; moved = b.moved; turned = b.turned; other = b.other },
+  subst (λ (m : Machine). MakesEvents n (orders_of page) source (at_phase page.ends.server.machine phase) (words_of page) buffer (at_phase m phase') (words_of page') buffer') (sym same) d,
 )
 moved_at Client n source page page' phase phase' buffer buffer' b same d = (
-  record { same = b.same; orders = b.orders; other = b.other; turned = b.turned; other_turned = b.other_turned; left = b.left; right = b.right },
-  subst (λ (m : Machine). MakesEvents n (orders_of page) source (at_phase page.client phase) (words_of page) buffer (at_phase m phase') (words_of page') buffer') (sym same) d,
+  record { same = b.same; orders = b.orders; moved = b.moved; turned = b.turned; other = b.other },
+  subst (λ (m : Machine). MakesEvents n (orders_of page) source (at_phase page.ends.client.machine phase) (words_of page) buffer (at_phase m phase') (words_of page') buffer') (sym same) d,
 )
 
 low_at : (who : Role) (page : Plain) (phase : Phase) → IsLow (machine_of page who) → IsLow (machine_of (page_at page who phase) who)
@@ -281,7 +282,7 @@ advance_moved first who all source start n left page page' phase phase' buffer b
       idle = subst (λ (m : Machine). IsIdle m) (sym same) l.idle;
       payload_left = omega (arith, out, l.payload_left);
       buffer_left = subst (λ (m : Machine). buffer_at (read_size (standing m)) phase' ≤ buffer_needed (machine_of first who)) (sym same) (omega (arith, into, l.buffer_left));
-      other = beside.other ∙ l.other;
+      other = ap (λ (e : End). e.machine) beside.other ∙ l.other;
       long = as_long ∙ l.long;
       on = λ core h has.
           advance_along core who all source start n left (page_at page who phase) (page_at page' who phase') buffer buffer' few l.long (l.on core h has) (low_at who page phase low) made_so.0 made_so.1;
@@ -317,5 +318,5 @@ advance_stop first who all source start left page page' phase buffer none beside
   where
     page_back : (who : Role) (page page' : Plain) (phase : Phase) → IsBeside who page page' → words_of page' ≡ words_of page → machine_of page' who ≡ at_phase (machine_of page who) phase →
         IsBeside who (page_at page who phase) page' × (machine_of page' who ≡ machine_of (page_at page who phase) who) × (words_of page' ≡ words_of (page_at page who phase))
-    page_back Server page page' phase b words is = (record { same = b.same; orders = b.orders; other = b.other; turned = b.turned; other_turned = b.other_turned; left = b.left; right = b.right }, is, words)
-    page_back Client page page' phase b words is = (record { same = b.same; orders = b.orders; other = b.other; turned = b.turned; other_turned = b.other_turned; left = b.left; right = b.right }, is, words)
+    page_back Server page page' phase b words is = (record { same = b.same; orders = b.orders; moved = b.moved; turned = b.turned; other = b.other }, is, words)
+    page_back Client page page' phase b words is = (record { same = b.same; orders = b.orders; moved = b.moved; turned = b.turned; other = b.other }, is, words)

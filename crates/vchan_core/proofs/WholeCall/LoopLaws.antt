@@ -11,6 +11,8 @@ use Rattle.vchan_protocol.specs.declared.op.Op.TheVariants.{Load, LoadByte, Stor
 use Rattle.vchan_protocol.specs.declared.op.PastEvent.{PastEvent}
 use Rattle.vchan_protocol.specs.declared.call.Answer.{Answer}
 use Rattle.vchan_protocol.specs.declared.call.Call.{Call}
+use Rattle.vchan_protocol.specs.declared.side.Side.{Side}
+use Rattle.vchan_core.specs.declared.ends.End.{End}
 use Rattle.vchan_core.specs.declared.machine.Machine.{Machine}
 use Rattle.vchan_core.specs.declared.totals.Totals.{Totals}
 use Rattle.vchan_core.specs.declared.plain.Plain.{Plain}
@@ -25,13 +27,14 @@ use Rattle.vchan_core.specs.OneMachine.Phases.{standing, at_phase, rest, rest_at
 use Rattle.vchan_core.specs.Page.Counts.{capped}
 use Rattle.vchan_protocol.specs.History.Core.{Core, side_of, begun, event, bytes_loaded}
 use Rattle.vchan_protocol.specs.History.WholeCall.{alone, whole_call, called, call_answer}
-use Rattle.vchan_core.specs.Page.StandsFor.{IsMachineOf, HasPayload, StandsFor, machine_of, other_of, words_of, orders_of, op_of}
+use Rattle.vchan_core.specs.Page.Ends.{with_end}
+use Rattle.vchan_core.specs.Page.StandsFor.{IsEndOf, IsMachineOf, HasPayload, StandsFor, machine_of, moved_of, other_of, words_of, orders_of, op_of}
 use Rattle.vchan_core.specs.WholeCall.EventsMade.{MakesEvent, MakesEvents}
 use Rattle.vchan_core.specs.WholeCall.Beside.{IsBeside}
 use Rattle.vchan_core.specs.WholeCall.AtPhase.{page_at, page_to}
 use Rattle.vchan_core.proofs.OneMachine.PhaseLaws.{GoesOn_machine}
 use Rattle.vchan_protocol.proofs.Table.PlanLaws.{Leads_more}
-use Rattle.vchan_core.proofs.Page.StepLaws.{DoesEvent, stands_server, stands_client}
+use Rattle.vchan_core.proofs.Page.StepLaws.{DoesEvent, end_stands, stands_on}
 use Rattle.vchan_core.proofs.WholeCall.RunLaws.{IsRunning, IsStep, runs_begun, runs_on, runs_out, then_stands, then_fills, then_trail}
 use Rattle.vchan_protocol.proofs.History.WholeCallLaws.{length_payload}
 use Rattle.vchan_protocol.proofs.History.EventLaws.{diff_same}
@@ -45,17 +48,17 @@ unmoved moved count now before is same =
     let none : diff now before ≡ 0 = ap (λ (n : ℕ). diff n before) same ∙ diff_same before in
     omega (arith, none, is)
 
-does_event : (orders : Orders) (source buffer : List ℕ) (m m' : Machine) (list list' buffer' : List ℕ) (writes reads writes' reads' : Totals) (sent got : ℕ) →
-    ((standing m).prod < 2 ^ 32) × ((standing m).cons < 2 ^ 32) → MakesEvent orders source m list buffer m' list' buffer' → writes' ≡ writes → reads' ≡ reads → writes.sent ≡ capped sent → reads.got ≡ capped got →
-    DoesEvent orders list source m m' None list' writes reads writes' reads'
-does_event orders source buffer m m' list list' buffer' writes reads writes' reads' sent got low d writes_same reads_same sent_is got_is = record {
+does_event : (orders : Orders) (source buffer : List ℕ) (m m' : Machine) (list list' buffer' : List ℕ) (moved moved' : Totals) (sent got : ℕ) →
+    ((standing m).prod < 2 ^ 32) × ((standing m).cons < 2 ^ 32) → MakesEvent orders source m list buffer m' list' buffer' → moved' ≡ moved → moved.sent ≡ capped sent → moved.got ≡ capped got →
+    DoesEvent orders list source m m' None list' moved moved'
+does_event orders source buffer m m' list list' buffer' moved moved' sent got low d same sent_is got_is = record {
   busy = d.busy;
   leads = d.leads;
   idle = (λ some. absurd (false≢true some), λ quiet. absurd (d.awake quiet));
   stands = d.stands;
   words_are = d.words;
-  writes_are = writes_same ∙ ap (λ (n : ℕ). record writes { sent = n }) (unmoved writes.sent sent (standing m').prod (standing m).prod sent_is (ap (λ (e : Standing). e.prod) d.same));
-  reads_are = reads_same ∙ ap (λ (n : ℕ). record reads { got = n }) (unmoved reads.got got (standing m').cons (standing m).cons got_is (ap (λ (e : Standing). e.cons) d.same));
+  sent_is = ap (λ (w : Totals). w.sent) same ∙ unmoved moved.sent sent (standing m').prod (standing m).prod sent_is (ap (λ (e : Standing). e.prod) d.same);
+  got_is = ap (λ (w : Totals). w.got) same ∙ unmoved moved.got got (standing m').cons (standing m).cons got_is (ap (λ (e : Standing). e.cons) d.same);
   low = low;
 }
 
@@ -68,16 +71,12 @@ IsLow m = ((standing m).prod < 2 ^ 32) × ((standing m).cons < 2 ^ 32)
 
 pub stands_event : (who : Role) (source buffer buffer' : List ℕ) (page page' : Plain) → IsLow (machine_of page who) → IsBeside who page page' → EventOn who source page buffer page' buffer' →
     (core : Core) → StandsFor core page → HasPayload (side_of core who) source → StandsFor (event core who) page'
-stands_event Server source buffer buffer' page page' low beside d core h has =
-    stands_server core page page' source None h has
-    (does_event (orders_of page) source buffer page.server page'.server (words_of page) (words_of page') buffer' page.right page.left page'.right page'.left (length core.server.sent) (length core.server.got)
-    low d beside.right beside.left h.right.sent h.left.got)
-    beside.orders beside.other beside.turned beside.other_turned
-stands_event Client source buffer buffer' page page' low beside d core h has =
-    stands_client core page page' source None h has
-    (does_event (orders_of page) source buffer page.client page'.client (words_of page) (words_of page') buffer' page.left page.right page'.left page'.right (length core.client.sent) (length core.client.got)
-    low d beside.left beside.right h.left.sent h.right.got)
-    beside.orders beside.other beside.other_turned beside.turned
+stands_event who source buffer buffer' page page' low beside d core h has =
+    let s = side_of core who in
+    let is = end_stands core page who h in
+    stands_on core who page page' source None h has
+    (does_event (orders_of page) source buffer (machine_of page who) (machine_of page' who) (words_of page) (words_of page') buffer' (moved_of page who) (moved_of page' who) (length s.sent) (length s.got) low d beside.moved is.sent is.got)
+    beside.orders beside.turned beside.other
 
 pub is_step : (who : Role) (source buffer buffer' : List ℕ) (page page' : Plain) → IsLow (machine_of page who) → IsBeside who page page' → EventOn who source page buffer page' buffer' → IsStep who source page page' None buffer buffer'
 is_step who source buffer buffer' page page' low beside d = record {
@@ -136,7 +135,7 @@ module _ (first : Plain) (who : Role) (call : Call) (source start : List ℕ) (e
   loop_on : (page page' : Plain) (buffer buffer' : List ℕ) (count : ℕ) → InLoop first who call source start page buffer count → IsLow (machine_of page who) → IsBeside who page page' →
       EventOn who source page buffer page' buffer' → InLoop first who call source start page' buffer' (count + 1)
   loop_on page page' buffer buffer' count l low beside d =
-      loop_step page page' buffer buffer' count l (is_step who source buffer buffer' page page' low beside d) d.payload_left d.buffer_left beside.other
+      loop_step page page' buffer buffer' count l (is_step who source buffer buffer' page page' low beside d) d.payload_left d.buffer_left (ap (λ (e : End). e.machine) beside.other)
 
   -- a call has made fewer events than it may
   pub loop_short : (page : Plain) (buffer : List ℕ) (count : ℕ) → InLoop first who call source start page buffer count → count < most_events (standing (machine_of first who)) call
@@ -180,14 +179,18 @@ module _ (first : Plain) (who : Role) (call : Call) (source start : List ℕ) (e
 page_on : (page : Plain) (who : Role) (m : Machine) (list : List ℕ) → standing m ≡ standing (machine_of page who) → Plain
 page_on page Server m list same = record page {
   words = record page.words { list = list };
-  server = m;
+  ends = with_end page.ends Server (record page.ends.server { machine = m });
   server_orders = ap (λ (e : Standing). e.orders) same ∙ page.server_orders;
+  client_orders = page.client_orders;
   server_role = ap (λ (e : Standing). e.role) same ∙ page.server_role;
+  client_role = page.client_role;
 }
 page_on page Client m list same = record page {
   words = record page.words { list = list };
-  client = m;
+  ends = with_end page.ends Client (record page.ends.client { machine = m });
+  server_orders = page.server_orders;
   client_orders = ap (λ (e : Standing). e.orders) same ∙ page.client_orders;
+  server_role = page.server_role;
   client_role = ap (λ (e : Standing). e.role) same ∙ page.client_role;
 }
 
@@ -202,23 +205,30 @@ unfolding page_on
 page_on_has page Server m list same = record {
   machine = refl;
   words = refl;
-  beside = record { same = same; orders = refl; other = refl; turned = refl; other_turned = refl; left = refl; right = refl };
+  beside = record { same = same; orders = refl; moved = refl; turned = refl; other = refl };
 }
 page_on_has page Client m list same = record {
   machine = refl;
   words = refl;
-  beside = record { same = same; orders = refl; other = refl; turned = refl; other_turned = refl; left = refl; right = refl };
+  beside = record { same = same; orders = refl; moved = refl; turned = refl; other = refl };
 }
 
 beside_both : (who : Role) (one two three : Plain) → IsBeside who one two → IsBeside who one three → IsBeside who two three
 beside_both who one two three a b = record {
   same = b.same ∙ sym a.same;
   orders = b.orders ∙ sym a.orders;
-  other = b.other ∙ sym a.other;
+  moved = b.moved ∙ sym a.moved;
   turned = b.turned ∙ sym a.turned;
-  other_turned = b.other_turned ∙ sym a.other_turned;
-  left = b.left ∙ sym a.left;
-  right = b.right ∙ sym a.right;
+  other = b.other ∙ sym a.other;
+}
+
+-- the end that has the same parts is of the same side
+end_same : (s : Side) (e e' : End) → IsEndOf s e → e'.machine ≡ e.machine → e'.moved ≡ e.moved → e'.turned ≡ e.turned → IsEndOf s e'
+end_same s e e' h machine moved turned = record {
+  machine = subst (λ (m : Machine). IsMachineOf s m) (sym machine) h.machine;
+  sent = ap (λ (w : Totals). w.sent) moved ∙ h.sent;
+  got = ap (λ (w : Totals). w.got) moved ∙ h.got;
+  turned = turned ∙ h.turned;
 }
 
 -- a page that has the same parts stands for the same core states
@@ -226,22 +236,14 @@ pub stands_same : (who : Role) (page page' : Plain) → IsBeside who page page' 
 stands_same Server page page' b machine words core h = record {
   orders = b.orders ∙ h.orders;
   words = words ∙ h.words;
-  server = subst (λ (m : Machine). IsMachineOf core.server m) (sym machine) h.server;
-  client = subst (λ (m : Machine). IsMachineOf core.client m) (sym b.other) h.client;
-  left = record { sent = ap (λ (w : Totals). w.sent) b.left ∙ h.left.sent; got = ap (λ (w : Totals). w.got) b.left ∙ h.left.got };
-  right = record { sent = ap (λ (w : Totals). w.sent) b.right ∙ h.right.sent; got = ap (λ (w : Totals). w.got) b.right ∙ h.right.got };
-  server_turned = b.turned ∙ h.server_turned;
-  client_turned = b.other_turned ∙ h.client_turned;
+  server = end_same core.server page.ends.server page'.ends.server h.server machine b.moved b.turned;
+  client = subst (λ (e : End). IsEndOf core.client e) (sym b.other) h.client;
 }
 stands_same Client page page' b machine words core h = record {
   orders = b.orders ∙ h.orders;
   words = words ∙ h.words;
-  server = subst (λ (m : Machine). IsMachineOf core.server m) (sym b.other) h.server;
-  client = subst (λ (m : Machine). IsMachineOf core.client m) (sym machine) h.client;
-  left = record { sent = ap (λ (w : Totals). w.sent) b.left ∙ h.left.sent; got = ap (λ (w : Totals). w.got) b.left ∙ h.left.got };
-  right = record { sent = ap (λ (w : Totals). w.sent) b.right ∙ h.right.sent; got = ap (λ (w : Totals). w.got) b.right ∙ h.right.got };
-  server_turned = b.other_turned ∙ h.server_turned;
-  client_turned = b.turned ∙ h.client_turned;
+  server = subst (λ (e : End). IsEndOf core.server e) (sym b.other) h.server;
+  client = end_same core.client page.ends.client page'.ends.client h.client machine b.moved b.turned;
 }
 
 loop_same : (first : Plain) (who : Role) (call : Call) (source start : List ℕ) (page page' : Plain) (buffer buffer' : List ℕ) (count : ℕ) → InLoop first who call source start page buffer count →
@@ -251,7 +253,7 @@ loop_same first who call source start page page' buffer buffer' count l b machin
   payload_left = subst (λ (m : Machine). payload_needed m ≤ length source) (sym machine) l.payload_left;
   buffer_left = subst (λ (m : Machine). buffer_needed m ≤ length buffer') (sym machine) (omega (arith, l.buffer_left, ap (λ (b : List ℕ). length b) filled));
   long = ap (λ (b : List ℕ). length b) filled ∙ l.long;
-  other = b.other ∙ l.other;
+  other = ap (λ (e : End). e.machine) b.other ∙ l.other;
   trace = (l.trace.0, subst (λ (m : Machine). Stands (standing (machine_of first who)) call l.trace.0 m) (sym machine) l.trace.1, l.trace.2);
   running = λ core h. (let r = l.running core h in
       record {
@@ -365,12 +367,12 @@ pub loop_moved : (first : Plain) (who : Role) (call : Call) (source start : List
     InLoop first who call source start (page_at page' who phase') buffer' (count + n)
 loop_moved first Server call source start enough n page page' phase phase' buffer buffer' count l low b same d =
     loop_along first Server call source start enough n (page_at page Server phase) (page_at page' Server phase') buffer buffer' count l low
-    (record { same = b.same; orders = b.orders; other = b.other; turned = b.turned; other_turned = b.other_turned; left = b.left; right = b.right })
-    (subst (λ (m : Machine). MakesEvents n (orders_of page) source (at_phase page.server phase) (words_of page) buffer (at_phase m phase') (words_of page') buffer') (sym same) d)
+    (record { same = b.same; orders = b.orders; moved = b.moved; turned = b.turned; other = b.other })
+    (subst (λ (m : Machine). MakesEvents n (orders_of page) source (at_phase page.ends.server.machine phase) (words_of page) buffer (at_phase m phase') (words_of page') buffer') (sym same) d)
 loop_moved first Client call source start enough n page page' phase phase' buffer buffer' count l low b same d =
     loop_along first Client call source start enough n (page_at page Client phase) (page_at page' Client phase') buffer buffer' count l low
-    (record { same = b.same; orders = b.orders; other = b.other; turned = b.turned; other_turned = b.other_turned; left = b.left; right = b.right })
-    (subst (λ (m : Machine). MakesEvents n (orders_of page) source (at_phase page.client phase) (words_of page) buffer (at_phase m phase') (words_of page') buffer') (sym same) d)
+    (record { same = b.same; orders = b.orders; moved = b.moved; turned = b.turned; other = b.other })
+    (subst (λ (m : Machine). MakesEvents n (orders_of page) source (at_phase page.ends.client.machine phase) (words_of page) buffer (at_phase m phase') (words_of page') buffer') (sym same) d)
 
 -- this many looks at once
 pub loop_seen : (first : Plain) (who : Role) (call : Call) (source start : List ℕ) → payload_of call ≤ length source → (n : ℕ) (page : Plain) (phase phase' : Phase) (buffer : List ℕ) (count : ℕ) →
@@ -379,7 +381,7 @@ pub loop_seen : (first : Plain) (who : Role) (call : Call) (source start : List 
     InLoop first who call source start (page_at page who phase') buffer (count + n)
 loop_seen first who call source start enough n page phase phase' buffer count l low d =
     loop_moved first who call source start enough n page page phase phase' buffer buffer count l low
-    (record { same = refl; orders = refl; other = refl; turned = refl; other_turned = refl; left = refl; right = refl }) refl d
+    (record { same = refl; orders = refl; moved = refl; turned = refl; other = refl }) refl d
 
 -- what the loop knows of the event at a phase
 pub record MovesAt (who : Role) (source : List ℕ) (page page' : Plain) (phase : Phase) (move : Next) (buffer buffer' : List ℕ) : Type 0 where

@@ -3,7 +3,6 @@ use Rattle.std.proofs.Common.{[], ◌∷◌, ◌++◌, ◌≡◌, ℕ, ◌≤◌
 use Rattle.std.proofs.lemmas.Bool.{false≢true}
 use Rattle.ring_words.specs.declared.order.Orders.{Orders}
 use Rattle.ring_words.specs.declared.page.Role.{Role}
-use Rattle.ring_words.specs.declared.page.Role.TheVariants.{Server, Client}
 use Rattle.vchan_protocol.specs.declared.op.Op.{Op}
 use Rattle.vchan_protocol.specs.declared.op.Op.TheVariants.{Load, LoadByte, Store, StoreByte, Or, And, Swap, Nothing}
 use Rattle.vchan_protocol.specs.declared.op.PastEvent.{PastEvent}
@@ -21,15 +20,14 @@ use Rattle.vchan_protocol.specs.History.Core.{Core, side_of, with_side, event, b
 use Rattle.vchan_protocol.specs.History.WholeCall.{alone, whole_call}
 use Rattle.vchan_core.specs.Page.StandsFor.{IsMachineOf, HasPayload, StandsFor, machine_of, orders_of, words_of, op_of}
 use Rattle.vchan_core.proofs.OneMachine.PhaseLaws.{GoesOn_machine}
-use Rattle.vchan_core.proofs.Page.StepLaws.{InCall, in_call, event_by_lem, owed}
+use Rattle.vchan_core.proofs.Page.StepLaws.{InCall, end_stands, event_by_lem, in_call, owed}
 use Rattle.vchan_protocol.proofs.History.EventLaws.{OwesNext, settled_payload, side_by, event_by_on, event_by_answers, settled_trail, side_of_with_side}
 use Rattle.vchan_protocol.proofs.History.WholeCallLaws.{alone_after, alone_answers, FillsNext, fills_on, length_payload}
 
 -- ---- one end of a core state
 
 pub machine_stands : (core : Core) (page : Plain) (who : Role) → StandsFor core page → IsMachineOf (side_of core who) (machine_of page who)
-machine_stands core page Server h = h.server
-machine_stands core page Client h = h.client
+machine_stands core page who h = (end_stands core page who h).machine
 
 -- ---- the loop
 

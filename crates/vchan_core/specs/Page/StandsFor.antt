@@ -2,9 +2,7 @@
 use Rattle.std.specs.Prelude.{◌≡◌, ℕ, Bool, Option, Some, None, List, length, take}
 use Rattle.ring_words.specs.declared.order.Orders.{Orders}
 use Rattle.ring_words.specs.declared.page.Role.{Role}
-use Rattle.ring_words.specs.declared.page.Role.TheVariants.{Server, Client}
-use Rattle.ring_words.specs.declared.page.Ring.{Ring}
-use Rattle.ring_words.specs.declared.page.Ring.TheVariants.{Left, Right}
+use Rattle.vchan_core.specs.declared.ends.End.{End}
 use Rattle.vchan_core.specs.declared.machine.Machine.{Machine}
 use Rattle.vchan_core.specs.declared.plain.Plain.{Plain}
 use Rattle.vchan_core.specs.declared.totals.Totals.{Totals}
@@ -15,17 +13,20 @@ use Rattle.vchan_protocol.specs.Table.Plan.{Leads, next_op}
 use Rattle.vchan_protocol.specs.Table.Calls.{plan_of, payload_of}
 use Rattle.vchan_core.specs.OneMachine.Phases.{standing, rest, IsIdle}
 use Rattle.vchan_core.specs.Page.Counts.{capped}
-use Rattle.vchan_protocol.specs.History.Core.{Core, writer_of, reader_of, standing_of, begun_standing, standing_along}
+use Rattle.vchan_core.specs.Page.Ends.{end_of, other_end}
+use Rattle.vchan_protocol.specs.History.Core.{Core, standing_of, begun_standing, standing_along}
 
 -- ---- the parts of a plain page
 
 abbrev pub machine_of : Plain → Role → Machine
-machine_of page Server = page.server
-machine_of page Client = page.client
+machine_of page who = (end_of page.ends who).machine
 
 abbrev pub other_of : Plain → Role → Machine
-other_of page Server = page.client
-other_of page Client = page.server
+other_of page who = (other_end page.ends who).machine
+
+-- how many bytes an end has sent and got
+abbrev pub moved_of : Plain → Role → Totals
+moved_of page who = (end_of page.ends who).moved
 
 abbrev pub words_of : Plain → List ℕ
 words_of page = page.words.list
@@ -34,12 +35,7 @@ abbrev pub orders_of : Plain → Orders
 orders_of page = page.words.orders
 
 abbrev pub turned_of : Plain → Role → Bool
-turned_of page Server = page.server_turned
-turned_of page Client = page.client_turned
-
-abbrev pub other_turned_of : Plain → Role → Bool
-other_turned_of page Server = page.client_turned
-other_turned_of page Client = page.server_turned
+turned_of page who = (end_of page.ends who).turned
 
 -- the event that comes next at an end
 abbrev pub op_of : Plain → Role → Op
@@ -58,21 +54,19 @@ pub record IsMachineOf (s : Side) (m : Machine) : Type 0 where
   pub standing_is : standing m ≡ standing_of s
   pub in_call : IsInCall s s.call m
 
--- the counts are the lengths of the ring's two lists
-pub record AreTotalsOf (core : Core) (ring : Ring) (moved : Totals) : Type 0 where
-  pub sent : moved.sent ≡ capped (length (writer_of core ring).sent)
-  pub got : moved.got ≡ capped (length (reader_of core ring).got)
+-- what a page keeps of an end is of this end
+pub record IsEndOf (s : Side) (e : End) : Type 0 where
+  pub machine : IsMachineOf s e.machine
+  pub sent : e.moved.sent ≡ capped (length s.sent)
+  pub got : e.moved.got ≡ capped (length s.got)
+  pub turned : e.turned ≡ s.turned
 
 -- the plain page stands for the core state
 pub record StandsFor (core : Core) (page : Plain) : Type 0 where
   pub orders : orders_of page ≡ core.orders
   pub words : words_of page ≡ core.words
-  pub server : IsMachineOf core.server page.server
-  pub client : IsMachineOf core.client page.client
-  pub left : AreTotalsOf core Left page.left
-  pub right : AreTotalsOf core Right page.right
-  pub server_turned : page.server_turned ≡ core.server.turned
-  pub client_turned : page.client_turned ≡ core.client.turned
+  pub server : IsEndOf core.server page.ends.server
+  pub client : IsEndOf core.client page.ends.client
 
 -- the given bytes begin with the payload of the end's call
 abbrev pub HasPayload : Side → List ℕ → Type 0

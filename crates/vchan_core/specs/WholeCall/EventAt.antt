@@ -29,10 +29,10 @@ pub record MakesEventAt (orders : Orders) (m : Machine) (phase : Phase) (list so
   pub buffer_left : buffer_next (read_size (standing m')) next ≤ buffer_at (read_size (standing m)) phase
   pub low : ((standing m).prod < 2 ^ 32) × ((standing m).cons < 2 ^ 32)
 
--- the counts of the ring that an end writes, after its own count of it has moved on
-abbrev pub with_sent : Totals → Machine → Machine → Totals
-with_sent writes m m' = record writes { sent = capped (writes.sent + diff (standing m').prod (standing m).prod) }
+-- how many bytes an end has sent, after its own count of the ring that it writes has moved on
+abbrev pub sent_on : Totals → Machine → Machine → ℕ
+sent_on moved m m' = capped (moved.sent + diff (standing m').prod (standing m).prod)
 
--- and those of the ring that it reads
-abbrev pub with_got : Totals → Machine → Machine → Totals
-with_got reads m m' = record reads { got = capped (reads.got + diff (standing m').cons (standing m).cons) }
+-- and how many it has got
+abbrev pub got_on : Totals → Machine → Machine → ℕ
+got_on moved m m' = capped (moved.got + diff (standing m').cons (standing m).cons)

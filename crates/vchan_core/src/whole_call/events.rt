@@ -6,7 +6,7 @@
 ghost use Rattle.std.specs.Prelude.{◌≡◌, ◌≤◌, ℕ, List, length};
 ghost use Rattle.vchan_protocol.specs.Table.Ends.{read_size};
 ghost use Rattle.vchan_core.specs.OneMachine.Phases.{standing, payload_at, buffer_at};
-ghost use Rattle.vchan_core.specs.WholeCall.EventAt.{MakesEventAt, with_sent, with_got};
+ghost use Rattle.vchan_core.specs.WholeCall.EventAt.{MakesEventAt, sent_on, got_on};
 
 use crate::carry::carry_out;
 use crate::machine::Machine;
@@ -27,8 +27,7 @@ impl Machine {
         words: &mut Words,
         payload: &[u8],
         buf: &mut [u8],
-        writes: &mut Totals,
-        reads: &mut Totals,
+        moved: &mut Totals,
     ) -> Next
         requires role { self.old.role ≡ role }
         requires orders { words.old.orders ≡ self.old.orders }
@@ -36,47 +35,42 @@ impl Machine {
         requires buf { buffer_at (read_size (standing self.old)) phase ≤ length buf.old }
         ensures orders { words.new.orders ≡ words.old.orders }
         ensures event { MakesEventAt words.old.orders self.old phase words.old.list payload.now buf.old self.new result words.new.list buf.new }
-        ensures sent { writes.new ≡ with_sent writes.old self.old self.new }
-        ensures got { reads.new ≡ with_got reads.old self.old self.new }
+        ensures sent { moved.new.sent ≡ sent_on moved.old self.old self.new }
+        ensures got { moved.new.got ≡ got_on moved.old self.old self.new }
     {
         match phase {
             Phase::Put { at, count, answer } if at >= count => {
-                reads.stays();
-                self.show_bytes(role, at, count, answer, words, writes)
+                moved.stays();
+                self.show_bytes(role, at, count, answer, words, moved)
             }
             Phase::Take { at, count, answer } if at >= count => {
-                writes.stays();
-                self.release_places(role, at, count, answer, words, reads)
+                moved.stays();
+                self.release_places(role, at, count, answer, words, moved)
             }
             Phase::Notify { bit, answer } => {
-                writes.stays();
-                reads.stays();
+                moved.stays();
                 self.notify_peer(role, bit, answer, words)
             }
             Phase::Signal { answer } => {
-                writes.stays();
-                reads.stays();
+                moved.stays();
                 self.signal_peer(role, answer, words)
             }
             Phase::ReadLook { most } => {
-                writes.stays();
-                reads.stays();
+                moved.stays();
                 self.look_for_bytes(role, most, words)
             }
             Phase::ReadAsk { most } => {
-                writes.stays();
-                reads.stays();
+                moved.stays();
                 self.ask_for_bytes(role, most, words)
             }
             Phase::ReadLookAgain { most } => {
-                writes.stays();
-                reads.stays();
+                moved.stays();
                 self.look_again_for_bytes(role, most, words)
             }
             // Copies, so that the phase and what comes of it lie in memory only in this arm.
             _ => {
                 let rare = phase;
-                let next = self.seldom(rare, words, payload, buf, writes, reads);
+                let next = self.seldom(rare, words, payload, buf, moved);
                 next
             }
         }
@@ -92,7 +86,7 @@ impl Machine {
         count: u32,
         answer: Answer,
         words: &mut Words,
-        writes: &mut Totals,
+        moved: &mut Totals,
     ) -> Next
         requires role { self.old.role ≡ role }
         requires orders { words.old.orders ≡ self.old.orders }
@@ -100,13 +94,14 @@ impl Machine {
         ensures orders { words.new.orders ≡ words.old.orders }
         ensures event { (payload : List ℕ) → (buffer : List ℕ) → MakesEventAt words.old.orders self.old (Phase.Put at count answer) words.old.list payload buffer self.new result words.new.list buffer }
         ensures cons { (standing self.new).cons ≡ (standing self.old).cons }
-        ensures sent { writes.new ≡ with_sent writes.old self.old self.new }
+        ensures sent { moved.new.sent ≡ sent_on moved.old self.old self.new }
+        ensures got { moved.new.got ≡ moved.old.got }
     {
         let (prod, _) = self.counts();
         let shown = prod.wrapping_add(count);
         self.prod = shown;
         words.store(prod_word(self.written_as(role)), u64::from(shown));
-        writes.count_sent(prod, shown);
+        moved.count_sent(prod, shown);
         put_on(at, count, answer)
     }
 
@@ -120,7 +115,7 @@ impl Machine {
         count: u32,
         answer: Answer,
         words: &mut Words,
-        reads: &mut Totals,
+        moved: &mut Totals,
     ) -> Next
         requires role { self.old.role ≡ role }
         requires orders { words.old.orders ≡ self.old.orders }
@@ -128,13 +123,14 @@ impl Machine {
         ensures orders { words.new.orders ≡ words.old.orders }
         ensures event { (payload : List ℕ) → (buffer : List ℕ) → MakesEventAt words.old.orders self.old (Phase.Take at count answer) words.old.list payload buffer self.new result words.new.list buffer }
         ensures prod { (standing self.new).prod ≡ (standing self.old).prod }
-        ensures got { reads.new ≡ with_got reads.old self.old self.new }
+        ensures sent { moved.new.sent ≡ moved.old.sent }
+        ensures got { moved.new.got ≡ got_on moved.old self.old self.new }
     {
         let (_, cons) = self.counts();
         let released = cons.wrapping_add(count);
         self.cons = released;
         words.store(cons_word(self.read_as(role)), u64::from(released));
-        reads.count_got(cons, released);
+        moved.count_got(cons, released);
         take_on(at, count, answer)
     }
 
@@ -218,22 +214,21 @@ impl Machine {
         words: &mut Words,
         payload: &[u8],
         buf: &mut [u8],
-        writes: &mut Totals,
-        reads: &mut Totals,
+        moved: &mut Totals,
     ) -> Next
         requires orders { words.old.orders ≡ self.old.orders }
         requires payload { payload_at phase ≤ length payload.now }
         requires buf { buffer_at (read_size (standing self.old)) phase ≤ length buf.old }
         ensures orders { words.new.orders ≡ words.old.orders }
         ensures event { MakesEventAt words.old.orders self.old phase words.old.list payload.now buf.old self.new result words.new.list buf.new }
-        ensures sent { writes.new ≡ with_sent writes.old self.old self.new }
-        ensures got { reads.new ≡ with_got reads.old self.old self.new }
+        ensures sent { moved.new.sent ≡ sent_on moved.old self.old self.new }
+        ensures got { moved.new.got ≡ got_on moved.old self.old self.new }
     {
         let op = self.op_at(phase);
         let value = carry_out(words, op, payload, buf);
         let before = self.counts();
         let next = self.advanced(phase, value);
-        Totals::count(before, self.counts(), writes, reads);
+        moved.count(before, self.counts());
         next
     }
 }

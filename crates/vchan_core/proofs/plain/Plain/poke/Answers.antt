@@ -11,22 +11,15 @@ pub returns-clause-stands : goal.returns-clause-stands
 returns-clause-stands c = λ core h. stands_strayed core c.args.who (Store c.args.word c.args.value) c.args.self.now c.turn.new.self _ h (record {
   idle = c.turn.ensures.idle;
   stands = c.turn.ensures.standing;
-  other = c.turn.ensures.other;
+  moved = c.turn.ensures.moved;
   turned = c.turn.ensures.turned;
-  other_turned = c.turn.ensures.other_turned;
-  left = c.turn.ensures.left;
-  right = c.turn.ensures.right;
+  other = c.turn.ensures.other;
   words =
       ap (λ (w : PageWords). w.list) c.store.ensures.words
       ∙ ap (λ (o : Orders). slice_set c.turn.new.self.words.list (index_of o c.args.word) c.args.value) c.turn.ensures.orders
       ∙ ap (λ (l : List ℕ). slice_set l (index_of c.args.self.now.words.orders c.args.word) c.args.value) c.turn.ensures.words;
   orders = ap (λ (w : PageWords). w.orders) c.store.ensures.words ∙ c.turn.ensures.orders;
-  server_is = refl;
-  client_is = refl;
-  left_is = refl;
-  right_is = refl;
-  server_turned_is = refl;
-  client_turned_is = refl;
+  ends = refl;
 })
 
 pub returns-clause-invariant : goal.returns-clause-invariant

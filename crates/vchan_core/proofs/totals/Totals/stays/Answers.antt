@@ -1,9 +1,9 @@
-use Rattle.std.proofs.Common.{ℕ, ap, arith}
+use Rattle.std.proofs.Common.{arith}
 use Rattle.vchan_core.proofs.totals.Totals.stays.Goals as goal
 use Rattle.vchan_protocol.proofs.History.EventLaws.{diff_same}
 
 pub returns-clause-sent : goal.returns-clause-sent
-returns-clause-sent c = λ prod. ap (λ (n : ℕ). record c.args.self.now { sent = n }) (omega (arith, diff_same prod, c.sent-sent.ensures))
+returns-clause-sent c = λ prod. omega (arith, diff_same prod, c.sent-sent.ensures)
 
 pub returns-clause-got : goal.returns-clause-got
-returns-clause-got c = λ cons. ap (λ (n : ℕ). record c.args.self.now { got = n }) (omega (arith, diff_same cons, c.got-got.ensures))
+returns-clause-got c = λ cons. omega (arith, diff_same cons, c.got-got.ensures)
