@@ -70,7 +70,14 @@ fn measured<R: Clock + CpuClock + Files + Print + AllocGlobal + Threads + Wait +
             };
             pool::measured(rt, load)
         }
-        ("ring", [size, calls, rounds]) => ring::measured(rt, *size, *calls, *rounds),
+        ("ring", [size, calls, rounds]) => {
+            let rounds = ring::Rounds {
+                size: *size,
+                calls: *calls,
+                rounds: *rounds,
+            };
+            ring::measured(rt, rounds)
+        }
         ("threads", [size, pieces]) => ring::measured_in_threads(rt, *size, *pieces),
         ("session", [size, piece]) => session::measured(rt, *size, *piece),
         ("turns", [runs]) => turns::measured(rt, *runs),

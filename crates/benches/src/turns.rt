@@ -3,6 +3,7 @@
 mod stopwatch;
 
 use anyhow::{Result, bail};
+use scenario_file::Scenario;
 use scenario_run::run_scenario;
 use std::alloc::Global;
 use std::sync::Wait;
@@ -84,13 +85,23 @@ fn calls_run<R: CpuClock + Threads + Wait + Sync>(
     file: &str,
     stopwatch: &Stopwatch<'_, R>,
 ) -> Result<usize> {
-    let Ok(scenario) = scenario_file::read(alloc, file.as_bytes()) else {
-        bail!("no scenario");
-    };
-    let Ok(report) = run_scenario(rt, alloc, &scenario, 1, stopwatch) else {
-        bail!("out of memory");
-    };
-    Ok(report.calls.len())
+    match scenario_file::read(alloc, file.as_bytes()) {
+        Ok(scenario) => calls_in(rt, alloc, &scenario, stopwatch),
+        Err(_) => bail!("no scenario"),
+    }
+}
+
+// How many calls the report of a run of this scenario has.
+fn calls_in<R: CpuClock + Threads + Wait + Sync>(
+    rt: &R,
+    alloc: Global,
+    scenario: &Scenario,
+    stopwatch: &Stopwatch<'_, R>,
+) -> Result<usize> {
+    match run_scenario(rt, alloc, scenario, 1, stopwatch) {
+        Ok(report) => Ok(report.calls.len()),
+        Err(_) => bail!("out of memory"),
+    }
 }
 
 /// Returns the average time of a turn of the agent in a run of a row, in nanoseconds.

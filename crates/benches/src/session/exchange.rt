@@ -16,9 +16,18 @@ pub(crate) fn exchange(
 ) -> Result<usize, Memory> {
     let mut caller = Caller::new(alloc, input, 3, 65_536)?;
     let mut serving = Serving::new(alloc, service, 3, 65_536)?;
+    pass_all(&mut caller, &mut serving, most)
+}
+
+// Passes all that the two sides of a call send. Returns how many bytes of output the caller got.
+fn pass_all(
+    caller: &mut Caller,
+    serving: &mut Serving<Builtin>,
+    most: usize,
+) -> Result<usize, Memory> {
     for _ in 0..u64::MAX {
-        let asked = pass_on(&mut caller, &mut serving, most)?;
-        let answered = pass_back(&mut caller, &mut serving, most)?;
+        let asked = pass_on(caller, serving, most)?;
+        let answered = pass_back(caller, serving, most)?;
         if asked == 0 && answered == 0 {
             break;
         }
