@@ -1,10 +1,9 @@
-use Rattle.std.proofs.Common.{◌≡◌, ◌<◌, ◌-◌, [], slice_index, ℕ, ◌+◌, sym, ap, subst, ◌∙◌, refl, inl, arith, None}
+use Rattle.std.proofs.Common.{◌≡◌, ◌<◌, [], slice_index, ℕ, ◌+◌, sym, ap, subst, ◌∙◌, refl, inl, arith, None}
 use Rattle.ring_words.specs.Page.{index_of}
 use Rattle.ring_words.specs.declared.page.WordName.TheVariants.{RingByte}
 use Rattle.vchan_core.specs.declared.machine.Machine.{Machine}
 use Rattle.vchan_core.specs.OneMachine.Ahead.{put_at}
 use Rattle.vchan_rule.specs.Ends.{end_in, Agrees}
-use Rattle.vchan_rule.specs.Along.{GoesAlong}
 use Rattle.vchan_rule.specs.declared.rule.View.TheVariants.{One}
 use Rattle.vchan_rule.proofs.ByteLaws.{put_next, put_has, number_from, some_size, moving_none, byte_owed, byte_own, byte_moved}
 use Rattle.vchan_rule.proofs.steps.put_bytes.Goals as goal
