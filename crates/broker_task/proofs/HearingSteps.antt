@@ -1,7 +1,7 @@
 -- A domain that is heard, event by event.
 use Rattle.std.proofs.Common.{◌≡◌, ◌≢◌, ℕ, ◌+◌, ◌-◌, ◌≤◌, Some, Bool, true, false, List, [], ◌∷◌, ◌++◌, length, refl, sym, ap, ◌∙◌, subst, arith, suc, zero, ◌<◌}
 use Rattle.std.proofs.Math.ListN.{set}
-use Rattle.std.specs.Prelude.{nat_le, filter_map, IsPermutation, if◌then◌else◌}
+use Rattle.std.specs.Prelude.{nat_le, filter_map, slice_index_or, IsPermutation, if◌then◌else◌}
 use Rattle.qrexec_frame.specs.declared.message.Message.{Message}
 use Rattle.std.proofs.lemmas.List.{append-nil, get_or-set_same, length-set}
 use Rattle.std.proofs.lemmas.Bool.Decides.{nat_tests}
@@ -149,6 +149,10 @@ place_of_domain hub ds d there count =
     let low : 1 ≤ d = grind (arith, nat_tests, bounds.0) in
     let high : d ≤ count_of hub = grind (arith, nat_tests, bounds.1) in
     (omega (arith, low, high, count), omega (arith, low))
+
+-- what was read at the place of a domain is its daemon
+pub at_domain : (hub : Domains) (ds : List Daemon) (d : ℕ) (x : Daemon) → is_domain hub d ≡ true → length ds ≡ count_of hub → x ≡ slice_index_or ds (d - 1) x → IsAt ds (d - 1) x × (d - 1 + 1 ≡ d)
+at_domain hub ds d x there count is = let place = place_of_domain hub ds d there count in (record { within = place.0; is = is }, place.1)
 
 pub next_moves : (d : ℕ) (x y : Daemon) → OnlyPort x y → y.port.end ≡ x.port.end → IsLine y.domain y → ((said : List Message) → HasSaid x.port said → HasSaid y.port said) → MovesPort d x y
 next_moves d x y only end line said =

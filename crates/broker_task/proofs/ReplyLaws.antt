@@ -19,7 +19,9 @@ use Rattle.call_broker.proofs.OpenLaws.{taken_view, domain_found}
 use Rattle.call_broker.specs.Journal.{IsNumbered}
 use Rattle.task_duties.specs.Words.{exec_line, user}
 use Rattle.task_duties.specs.Broker.Outbox.{is_from}
+use Rattle.broker_task.specs.declared.daemon.Daemon.{Daemon}
 use Rattle.broker_task.specs.Lines.{HasRoom}
+use Rattle.broker_task.specs.Posting.{EachMoves}
 use Rattle.broker_task.specs.Replies.{HasShortNames, IsReplyTo, IsWithin}
 use Rattle.broker_task.specs.declared.reply.Reply.{Reply}
 use Rattle.broker_task.specs.declared.reply.Reply.TheVariants.{Nothing, Refused, Accepted}
@@ -67,6 +69,9 @@ last_entry journal e d n long is =
 -- a slice of all of a list, once it was written to
 pub written_back : {A : Type 0} (new old : List A) (n : ℕ) → length new ≡ length old → n ≡ length old → take n (new ++ drop (length new) old) ≡ new
 written_back new old n same all = grind (arith, common_steps, same, all)
+
+pub moved_back : (R : ℕ → Daemon → Daemon → Type 0) (old new : List Daemon) (n : ℕ) → n ≡ length old → EachMoves R old new → EachMoves R old (take n (new ++ drop (length new) old))
+moved_back R old new n all moves = subst (λ (l : List Daemon). EachMoves R old l) (sym (written_back new old n moves.count all)) moves
 
 -- an event of a domain that exists
 pub numbered_from : (hub : Domains) (from : ℕ) (event : Event) → is_from from event ≡ true → is_domain hub from ≡ true → HasRoom event → IsNumbered hub event
