@@ -347,7 +347,7 @@ session_work_lem core caller serving service lawful version calling answering ca
 
 -- ---- control pages
 
-filtered_few : {X Y : Type 0} (f : X → Option Y) (xs : List X) → length (filter_map f xs) ≤ length xs
+pub filtered_few : {X Y : Type 0} (f : X → Option Y) (xs : List X) → length (filter_map f xs) ≤ length xs
 filtered_few f [] = omega arith
 filtered_few {X} {Y} f (x ∷ xs) = by (f x) (filtered_few f xs)
   where

@@ -28,7 +28,7 @@ use Rattle.qrexec_data.specs.Laws.{IsVersion}
 -- ---- a stream of messages that may be said
 
 -- each message goes on a control channel
-abbrev GoOn : (Message → Bool) → Type 0
+abbrev pub GoOn : (Message → Bool) → Type 0
 GoOn may = (m : Message) → may m ≡ true → GoesOn Control m
 
 to_broker_goes : GoOn to_broker
@@ -59,7 +59,7 @@ to_agent_goes (Terminated domain port) may = cc
 to_agent_goes (Trigger3 target ident service) may = cc
 to_agent_goes (Trigger target ident service) may = cc
 
-all_good : (may : Message → Bool) → GoOn may → (said : List Message) → Each (λ m. (may m ≡ true) × IsSpellable m) said → Each (IsGood Control) said
+pub all_good : (may : Message → Bool) → GoOn may → (said : List Message) → Each (λ m. (may m ≡ true) × IsSpellable m) said → Each (IsGood Control) said
 all_good may go [] each = tt
 all_good may go (m ∷ said) each = ((each.0.1, go m each.0.0), all_good may go said each.1)
 

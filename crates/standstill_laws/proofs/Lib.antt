@@ -15,5 +15,8 @@ mod EarlyLaws
 mod StandstillLaws
 mod CountingLaws
 mod BoundLaws
+mod SumLaws
+mod PriceLaws
+mod TrafficLaws
 mod KeepingLaws
 mod StretchLaws

@@ -12,5 +12,6 @@ pub mod Order
 pub mod Standstill
 pub mod Counting
 pub mod Bounds
+pub mod Traffic
 pub mod Keeping
 pub mod Stretch

@@ -14,6 +14,7 @@ ghost use Rattle.standstill_laws.specs.Standstill.{RunsDoNotStandStill, NoAgentI
 ghost use Rattle.standstill_laws.specs.Keeping.{FindingsStay};
 ghost use Rattle.standstill_laws.specs.Counting.{TurnsAreBounded};
 ghost use Rattle.standstill_laws.specs.Bounds.{AgentsSayFew, OutboxesHoldFew, SessionsSendLittle, SessionWorkIsBounded};
+ghost use Rattle.standstill_laws.specs.Traffic.{AgentsSpeak, ControlMessagesAreFew, ControlBytesAreFew};
 ghost use Rattle.standstill_laws.specs.Stretch.{ControlPagesRest, DataPagesRest, StretchesRest};
 ghost use Rattle.standstill_laws.specs.Order.{EndsComeInOrder, NoneIsEarly, AgentsHearInOrder};
 
@@ -201,6 +202,24 @@ pub fn agents_say_few()
 /// A journal puts at most two messages for each of its entries into the outbox of a domain.
 pub fn outboxes_hold_few()
     ensures { OutboxesHoldFew }
+{}
+
+/// An agent has said triggers of its calls, in their order and each once, and the end of each session that it owes to
+/// report by what it has heard, each once: after each turn, and when it is done.
+pub fn agents_speak()
+    ensures { AgentsSpeak }
+{}
+
+/// So all control channels of a run between honest domains carry at most two greetings for each domain, and five messages
+/// for each of its calls: a trigger, a Connect, an Exec, and the reports of both sides that the session has ended.
+pub fn control_messages_are_few()
+    ensures { ControlMessagesAreFew }
+{}
+
+/// And so many bytes at most: 24 for each domain, and for each of its calls 251, those of the caller's name, and twice
+/// those of the service's name.
+pub fn control_bytes_are_few()
+    ensures { ControlBytesAreFew }
 {}
 
 /// Pages that stand still exist, whatever their orders: one that was just opened, by what a drain of it loads.

@@ -1,0 +1,222 @@
+-- The messages and the bytes of all control channels.
+use Rattle.std.proofs.Common.{◌≡◌, ℕ, ◌+◌, ◌*◌, ◌<◌, ◌≤◌, Bool, true, List, [], ◌∷◌, ◌++◌, length, length-append, map, drop, Option, Some, None, refl, sym, ap, ◌∙◌, subst, arith, inl, inr}
+use Rattle.std.specs.Prelude.{◌⊎◌, codes, filter_map, IsSomeAnd}
+use Rattle.std.specs.List.{sum_by, flat_map, AllByRecursion as Each}
+use Rattle.std.proofs.Common.{lit<}
+use Rattle.std.proofs.lemmas.List.{length-map, take-append-drop}
+use Rattle.std.proofs.lemmas.List.Recursion.{is_sum_by}
+use Rattle.std.proofs.lemmas.List.Sums.{sum_by-cons}
+use Rattle.list_laws.specs.Lists.{IsPrefixOf}
+use Rattle.end_view.specs.EndView.{EndView}
+use Rattle.qrexec_frame.specs.declared.kind.Channel.TheVariants.{Control}
+use Rattle.qrexec_frame.specs.declared.message.Message.{Message}
+use Rattle.qrexec_frame.specs.declared.message.Message.TheVariants.{Hello, Stdin, Stdout, Stderr, ExitCode, Exec, JustExec, Connect, Refused, Terminated, Trigger3, Trigger}
+use Rattle.qrexec_frame.specs.Messages.{written, IsSpellable}
+use Rattle.qrexec_frame.specs.Names.{cleaned_service}
+use Rattle.qrexec_frame.specs.Texts.{padded}
+use Rattle.qrexec_frame.specs.Fronts.{front, reading}
+use Rattle.qrexec_frame.specs.Laws.{IsGood}
+use Rattle.qrexec_frame.specs.Streams.{messages}
+use Rattle.qrexec_frame.proofs.StreamLaws.{reads_all}
+use Rattle.qrexec_frame.proofs.GrammarLaws.{is_prefix_code}
+use Rattle.qrexec_frame.proofs.WrittenLaws.{is_read_again, length_padded}
+use Rattle.qrexec_data.specs.Laws.{IsVersion}
+use Rattle.call_broker.specs.Domains.{count_of, name_of}
+use Rattle.scenario_file.specs.declared.scenario.CallPlan.{CallPlan}
+use Rattle.task_duties.specs.declared.done.CallDone.{CallDone}
+use Rattle.task_duties.specs.declared.done.ServedDone.{ServedDone}
+use Rattle.task_duties.specs.declared.done.ControlEnd.{ControlEnd}
+use Rattle.task_duties.specs.declared.place.PagePlace.{PagePlace}
+use Rattle.task_duties.specs.declared.place.PagePlace.TheVariants as place
+use Rattle.task_duties.specs.Hearing.{to_agent, to_broker, IsSaid}
+use Rattle.task_duties.specs.Words.{exec_line}
+use Rattle.task_duties.specs.Broker.Owes.{broker_version}
+use Rattle.task_duties.specs.Agent.Given.{AgentPlan}
+use Rattle.task_duties.specs.Agent.Saying.{asking, asking_of}
+use Rattle.task_duties.specs.Agent.Owes.{AgentOwes}
+use Rattle.task_duties.proofs.ControlLaw.{OnControl, agent_on_control, broker_on_control, all_heard}
+use Rattle.agent_control.specs.declared.control.AgentControl.{AgentControl}
+use Rattle.agent_task.specs.State.{AgentState, TellsSoFar, IsChannelOf}
+use Rattle.agent_task.specs.Telling.{TellsOnce}
+use Rattle.broker_task.specs.Standing.{IsAttended}
+use Rattle.standstill_laws.specs.Traffic.{HasSpoken, AgentsSpeak, IsControlPage, messages_across, bytes_across, ControlMessagesAreFew, call_bytes, ControlBytesAreFew}
+use Rattle.standstill_laws.proofs.ControlLaws.{all_good}
+use Rattle.standstill_laws.proofs.PriceLaws.{Prices, all_costs}
+use Rattle.standstill_laws.proofs.SumLaws.{sum_more}
+
+-- ---- what an agent has said
+
+going_on : (task : AgentState) → TellsSoFar task → HasSpoken task.plan task.control
+going_on task tells = record { version = tells.acts.version; once = tells.once; in_order = by task.channel tells.acts.channel }
+  where
+    by : (channel : Option AgentControl) → IsSomeAnd channel (IsChannelOf task tells.once.said) → IsPrefixOf (filter_map asking tells.once.said) (map asking_of task.plan.calls)
+    by (Some c) is =
+        let all = map asking_of task.plan.calls in
+        (drop c.queue.next all, ap (λ l. l ++ drop c.queue.next all) is.asks ∙ take-append-drop c.queue.next all)
+    by None is = absurd is
+
+done : (plan : AgentPlan) (end : PagePlace → EndView) (calls : List CallDone) (served : List ServedDone) (control : ControlEnd) → IsVersion plan.version → AgentOwes plan end calls served control → TellsOnce plan (end (place.Control plan.domain))
+    → HasSpoken plan (end (place.Control plan.domain))
+done plan end calls served control version owes once =
+    let sent : List ℕ = (end (place.Control plan.domain)).sent in
+    let here = all_heard plan.version plan.version to_broker broker_on_control once.said sent version.least version.small once.says in
+    let there = all_heard plan.version plan.version to_broker broker_on_control owes.said sent version.least version.small owes.says in
+    let same : owes.said ≡ once.said = sym there ∙ here in
+    record { version = version; once = once; in_order = subst (λ (l : List Message). IsPrefixOf (filter_map asking l) (map asking_of plan.calls)) same owes.in_order }
+
+pub agents_speak_lem : AgentsSpeak
+agents_speak_lem = (going_on, done)
+
+-- ---- messages
+
+-- in the bytes of a side that has said these
+counts_said : (own : ℕ) (may : Message → Bool) → OnControl may → IsVersion own → (said : List Message) (sent : List ℕ) → IsSaid own may said sent → length (messages (reading Control sent)) ≤ 1 + length said
+counts_said own may on version said sent is = by is.whole
+  where
+    by : ((sent ≡ []) × (said ≡ [])) ⊎ (sent ≡ flat_map written (Hello own ∷ said)) → length (messages (reading Control sent)) ≤ 1 + length said
+    by (inl none) = let nothing = ap (λ (bytes : List ℕ). length (messages (reading Control bytes))) none.0 in omega (arith, nothing)
+    by (inr all) =
+        let read = reads_all (front Control) written (IsGood Control) (is_prefix_code Control) (is_read_again Control) (Hello own ∷ said) (((tt, version.small), refl), all_good may on said is.each) 0 in
+        let same = ap (λ (bytes : List ℕ). length (messages (reading Control bytes))) all in
+        let count = ap (λ (ms : List Message). length ms) read.0 in
+        omega (arith, same, count)
+
+each_one : {X : Type 0} (xs : List X) → length xs ≡ sum_by (λ x. 1) xs
+each_one xs = is_sum_by length (λ x. 1) refl (λ x ys. omega arith) xs
+
+each_five : {X : Type 0} (xs : List X) → 5 * length xs ≡ sum_by (λ x. 5) xs
+each_five xs = is_sum_by (λ ys. 5 * length ys) (λ x. 5) refl (λ x ys. omega arith) xs
+
+counted : Prices (λ m. 1) (λ a. 1) 1 (λ name a. 3)
+counted = record {
+  trigger3 = λ target ident service. omega arith;
+  trigger = λ target ident service. omega arith;
+  terminated = λ domain port. omega arith;
+  accepts = λ from to port name target ident service. omega arith;
+  refuses = λ name target ident service. omega arith;
+}
+
+spoken_version : IsVersion broker_version
+spoken_version = record { least = omega arith; small = lit< tt }
+
+pub control_messages_are_few_lem : ControlMessagesAreFew
+control_messages_are_few_lem hub journal ends plans pages stands are =
+    let all = all_costs (λ m. 1) (λ a. 1) 1 (λ name a. 3) counted hub journal ends plans pages stands are 2 (λ place. messages_across (pages place)) each in
+    let same = sum_more (count_of hub) (λ place. 2 + sum_by (λ c. 5) (plans place).calls) (λ place. 2 + 5 * length (plans place).calls) (λ place less. omega (arith, each_five (plans place).calls)) in
+    omega (arith, all, same)
+  where
+    each : (place : ℕ) (less : place < count_of hub) → messages_across (pages place) ≤ 2 + (sum_by (λ m. 1) (are place less).spoken.once.said + sum_by (λ m. 1) (stands.said (place + 1)))
+    each place less =
+        let page : IsControlPage ends place (plans place) (pages place) = are place less in
+        let attended : IsAttended hub journal stands.said (place + 1) page.end = stands.each place page.end page.there in
+        let own = counts_said (plans place).version to_broker broker_on_control page.spoken.version page.spoken.once.said page.control.sent page.spoken.once.says in
+        let told = counts_said broker_version to_agent agent_on_control spoken_version (stands.said (place + 1)) page.end.view.sent attended.says in
+        let up = ap (λ (bytes : List ℕ). length (messages (reading Control bytes))) page.sent in
+        let down = ap (λ (bytes : List ℕ). length (messages (reading Control bytes))) page.broker_sent in
+        omega (arith, own, told, up, down, each_one page.spoken.once.said, each_one (stands.said (place + 1)))
+
+-- ---- bytes
+
+-- how many a message takes that has a spelling
+abbrev room : Message → ℕ
+room (Hello version) = 12
+room (Stdin bytes) = 8 + length bytes
+room (Stdout bytes) = 8 + length bytes
+room (Stderr bytes) = 8 + length bytes
+room (ExitCode code) = 12
+room (Exec domain port line) = 17 + length line
+room (JustExec domain port line) = 17 + length line
+room (Connect domain port ident) = 48
+room (Refused ident) = 40
+room (Terminated domain port) = 16
+room (Trigger3 target ident service) = 105 + length service
+room (Trigger target ident service) = 136
+
+takes_room : (m : Message) → IsSpellable m → length (written m) ≡ room m
+takes_room (Hello version) fits = omega arith
+takes_room (Stdin bytes) fits = omega arith
+takes_room (Stdout bytes) fits = omega arith
+takes_room (Stderr bytes) fits = omega arith
+takes_room (ExitCode code) fits = omega arith
+takes_room (Exec domain port line) fits = omega (arith, length-append line (0 ∷ []))
+takes_room (JustExec domain port line) fits = omega (arith, length-append line (0 ∷ []))
+takes_room (Connect domain port ident) fits = let text = fits.0.within in omega (arith, length_padded 32 ident (omega (arith, text)))
+takes_room (Refused ident) fits = let text = fits.0.within in omega (arith, length_padded 32 ident (omega (arith, text)))
+takes_room (Terminated domain port) fits = omega arith
+takes_room (Trigger3 target ident service) fits =
+    let one = fits.0.0.within in
+    let two = fits.0.1.within in
+    let first = length_padded 64 target (omega (arith, one)) in
+    let second = length_padded 32 ident (omega (arith, two)) in
+    let both = length-append (padded 64 target) (padded 32 ident ++ (service ++ 0 ∷ [])) in
+    let rest = length-append (padded 32 ident) (service ++ 0 ∷ []) in
+    omega (arith, first, second, both, rest, length-append service (0 ∷ []))
+takes_room (Trigger target ident service) fits =
+    let one = fits.0.0.within in
+    let two = fits.0.1.within in
+    let three = fits.0.2.within in
+    let first = length_padded 64 service (omega (arith, three)) in
+    let second = length_padded 32 target (omega (arith, one)) in
+    let third = length_padded 32 ident (omega (arith, two)) in
+    let both = length-append (padded 64 service) (padded 32 target ++ padded 32 ident) in
+    let rest = length-append (padded 32 target) (padded 32 ident) in
+    omega (arith, first, second, third, both, rest)
+
+all_take_room : (may : Message → Bool) (said : List Message) → Each (λ m. (may m ≡ true) × IsSpellable m) said → length (flat_map written said) ≡ sum_by room said
+all_take_room may [] each = refl
+all_take_room may (m ∷ said) each =
+    let both = length-append (written m) (flat_map written said) in
+    let here = takes_room m each.0.1 in
+    let rest = all_take_room may said each.1 in
+    let more = sum_by-cons room m said in
+    omega (arith, both, here, rest, more)
+
+sent_len : (own : ℕ) (may : Message → Bool) (said : List Message) (sent : List ℕ) → IsSaid own may said sent → length sent ≤ 12 + sum_by room said
+sent_len own may said sent is = by is.whole
+  where
+    by : ((sent ≡ []) × (said ≡ [])) ⊎ (sent ≡ flat_map written (Hello own ∷ said)) → length sent ≤ 12 + sum_by room said
+    by (inl none) = let nothing = ap (λ (bytes : List ℕ). length bytes) none.0 in omega (arith, nothing)
+    by (inr all) =
+        let same = ap (λ (bytes : List ℕ). length bytes) all in
+        let both = length-append (written (Hello own)) (flat_map written said) in
+        let hello : length (written (Hello own)) ≡ 12 = omega arith in
+        let rest = all_take_room may said is.each in
+        omega (arith, same, both, hello, rest)
+
+line_len : (service name : List ℕ) → length (exec_line (cleaned_service service) name) ≡ 18 + length service + length name
+line_len service name =
+    let inner = length-append (cleaned_service service) (codes " " ++ name) in
+    let cleaned : length (cleaned_service service) ≡ length service = length-map service _ in
+    omega (arith, inner, cleaned)
+
+weighed : Prices room (λ a. 136 + length a.service) 16 (λ name a. 99 + length a.service + length name)
+weighed = record {
+  trigger3 = λ target ident service. omega arith;
+  trigger = λ target ident service. omega arith;
+  terminated = λ domain port. omega arith;
+  accepts = λ from to port name target ident service. omega (arith, line_len service name);
+  refuses = λ name target ident service. omega arith;
+}
+
+-- what a call costs so
+abbrev costs : List ℕ → CallPlan → ℕ
+costs name call = ((136 + length call.service) + 16) + (99 + length call.service + length name)
+
+all_cost : (name : List ℕ) (calls : List CallPlan) → sum_by (costs name) calls ≡ sum_by (call_bytes name) calls
+all_cost name calls = is_sum_by (sum_by (costs name)) (call_bytes name) refl (λ c rest. omega (arith, sum_by-cons (costs name) c rest)) calls
+
+pub control_bytes_are_few_lem : ControlBytesAreFew
+control_bytes_are_few_lem hub journal ends plans pages stands are =
+    let all = all_costs room (λ a. 136 + length a.service) 16 (λ name a. 99 + length a.service + length name) weighed hub journal ends plans pages stands are 24 (λ place. bytes_across (pages place)) each in
+    let same = sum_more (count_of hub) (λ place. 24 + sum_by (costs (name_of hub (place + 1))) (plans place).calls) (λ place. 24 + sum_by (call_bytes (name_of hub (place + 1))) (plans place).calls) (λ place less. omega (arith, all_cost (name_of hub (place + 1)) (plans place).calls)) in
+    omega (arith, all, same)
+  where
+    each : (place : ℕ) (less : place < count_of hub) → bytes_across (pages place) ≤ 24 + (sum_by room (are place less).spoken.once.said + sum_by room (stands.said (place + 1)))
+    each place less =
+        let page : IsControlPage ends place (plans place) (pages place) = are place less in
+        let attended : IsAttended hub journal stands.said (place + 1) page.end = stands.each place page.end page.there in
+        let own = sent_len (plans place).version to_broker page.spoken.once.said page.control.sent page.spoken.once.says in
+        let told = sent_len broker_version to_agent (stands.said (place + 1)) page.end.view.sent attended.says in
+        let up = ap (λ (bytes : List ℕ). length bytes) page.sent in
+        let down = ap (λ (bytes : List ℕ). length bytes) page.broker_sent in
+        omega (arith, own, told, up, down)
