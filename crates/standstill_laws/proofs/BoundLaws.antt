@@ -12,6 +12,8 @@ use Rattle.list_laws.specs.Lists.{IsPrefixOf}
 use Rattle.list_laws.proofs.Each.{each_weaker}
 use Rattle.list_laws.proofs.Prefixes.{prefix_length, prefix_trans}
 use Rattle.vchan_protocol.specs.declared.side.Side.{Side}
+use Rattle.vchan_protocol.specs.History.Core.{Core}
+use Rattle.vchan_protocol.specs.Honest.Lawful.{Lawful}
 use Rattle.vchan_rule.specs.Seated.{view}
 use Rattle.qrexec_frame.specs.declared.message.Message.{Message}
 use Rattle.qrexec_frame.specs.declared.message.Message.TheVariants.{Hello, Stdin, Stdout, Stderr, ExitCode, Exec, JustExec, Connect, Refused, Terminated, Trigger3, Trigger}
@@ -26,23 +28,23 @@ use Rattle.qrexec_frame.proofs.WrittenLaws.{is_read_again}
 use Rattle.qrexec_frame.specs.Messages.{written, IsSpellable}
 use Rattle.qrexec_frame.specs.Names.{cleaned_service}
 use Rattle.service_gate.specs.Triple.{Triple}
-use Rattle.service_gate.specs.ServiceResult.{count_line, every_other, splits}
+use Rattle.service_gate.specs.ServiceResult.{count_line, every_other}
 use Rattle.service_gate.specs.Owing.{state_owes, builtin_owes}
+use Rattle.service_gate.specs.declared.builtin.Builtin.{Builtin}
 use Rattle.service_gate.specs.declared.builtin.State.{State}
 use Rattle.service_gate.specs.declared.builtin.State.TheVariants.{Echo, Upper, Count, First, Split, Exit}
 use Rattle.qrexec_data.specs.declared.outcome.SessionFault.TheVariants.{AfterEnd}
 use Rattle.qrexec_data.specs.Pieces.{Stream, In, Out, Err, Piece, message_of, end_of, joined, has_ended, is_stream, ArePieces, is_input, is_output}
-use Rattle.qrexec_data.specs.Seeing.{Seen, Faulty, decided, offset, piece_first, sees_one, sees_on, sees_all, seen_by, serving_sees, serving_use, number}
+use Rattle.qrexec_data.specs.Seeing.{Seen, Faulty, decided, offset, piece_first, sees_one, sees_on, sees_all, serving_sees, serving_use, number}
 use Rattle.qrexec_data.specs.Sending.{agreed, most, Begins, IsCallerStream, IsServingStream, IsServingBegun, CallerMaySend, ServingMaySend}
 use Rattle.qrexec_data.proofs.MaySendLaws.{caller_may_send, serving_may_send, flat_more}
 use Rattle.qrexec_data.proofs.PieceLaws.{the_messages}
 use Rattle.qrexec_data.specs.Laws.{IsVersion}
-use Rattle.call_broker.specs.declared.decision.Entry.{Entry}
 use Rattle.call_broker.specs.declared.decision.Decision.{Decision}
 use Rattle.call_broker.specs.declared.decision.Decision.TheVariants.{Accepted, Refused as RefusedFor, Ended, PassedOver}
 use Rattle.call_broker.specs.declared.event.Event.{Event}
 use Rattle.call_broker.specs.declared.event.Event.TheVariants as event
-use Rattle.call_broker.specs.Domains.{Domains, name_of}
+use Rattle.call_broker.specs.Domains.{name_of}
 use Rattle.call_queue.specs.Queue.{asked_by}
 use Rattle.agent_control.specs.declared.control.AgentControl.{AgentControl}
 use Rattle.task_duties.specs.Hearing.{to_broker}
@@ -50,8 +52,8 @@ use Rattle.task_duties.specs.Words.{exec_line}
 use Rattle.task_duties.specs.Broker.Outbox.{only_if, puts, outbox}
 use Rattle.task_duties.specs.Agent.Saying.{asking, asking_of}
 use Rattle.agent_task.specs.Ends.{session_told, session_asked, session_of_answer}
-use Rattle.agent_task.specs.State.{AgentState, TellsSoFar, IsChannelOf, answers_so_far}
-use Rattle.agent_task.specs.Telling.{heard_on, owed_on}
+use Rattle.agent_task.specs.State.{IsChannelOf, answers_so_far}
+use Rattle.agent_task.specs.Telling.{heard_on}
 use Rattle.standstill_laws.proofs.SessionLaws.{good_hello, input_good, most_fits}
 use Rattle.standstill_laws.specs.Bounds.{most_requested, most_answered, SessionsSendLittle, SessionWorkIsBounded, AgentsSayFew, OutboxesHoldFew}
 
@@ -324,26 +326,33 @@ owed_little (Exit code) input = omega arith
 
 -- ---- both sides of a session
 
+-- both ends of a page have sent no more than the input of its call gives
+pub sides_send_little : (core : Core) (own asked other answered : ℕ) (input : List ℕ) (service : Builtin) → Lawful core → IsVersion own → CallerMaySend own asked input core.server.got core.server.sent
+    → ServingMaySend other answered (builtin_owes service) core.client.got core.client.sent → length core.server.sent + length core.client.sent ≤ 249 + 18 * length input
+sides_send_little core own asked other answered input service lawful version asks answers =
+    let requested = caller_little own asked input core.server.got core.server.sent asks in
+    let replied = serving_little other answered (builtin_owes service) core.client.got core.client.sent answers in
+    let seen = input_little own asked input core.server.got core.server.sent core.client.got version asks lawful.right.lawful.prefix in
+    let outputs = owed_little service.state (serving_sees core.client.got).input in
+    omega (arith, requested, replied, seen, outputs)
+
 pub session_work_lem : SessionWorkIsBounded
 session_work_lem core caller serving service lawful version calling answering caller_is serving_is =
     let c = caller.caller in
     let s = serving.serving in
-    let owed = builtin_owes service in
-    let sent = (view caller.end).sent in
-    let may = caller_may_send c sent calling.stands in
-    let asked = caller_little c.replies.own c.requests.chunk c.requests.input c.inbox.got sent may in
-    let answered = serving_little s.answering.own s.answering.chunk owed s.inbox.got (view serving.end).sent (serving_may_send builtin_owes owed s (view serving.end).sent answering.stands) in
-    let heard : s.inbox.got ≡ core.client.got = answering.got ∙ ap (λ (side : Side). side.got) serving_is in
-    let right : IsPrefixOf s.inbox.got sent = subst (λ (z : List ℕ × List ℕ). IsPrefixOf z.0 z.1) (λ i. (sym heard i, sym (ap (λ (side : Side). side.sent) caller_is) i)) lawful.right.lawful.prefix in
-    let input = input_little c.replies.own c.requests.chunk c.requests.input c.inbox.got sent s.inbox.got version may right in
-    let outputs = owed_little service.state (serving_sees s.inbox.got).input in
+    let caller_got = ap (λ (side : Side). side.got) caller_is in
+    let caller_sent = ap (λ (side : Side). side.sent) caller_is in
+    let serving_got = ap (λ (side : Side). side.got) serving_is in
+    let serving_sent = ap (λ (side : Side). side.sent) serving_is in
+    let asks : CallerMaySend c.replies.own c.requests.chunk c.requests.input core.server.got core.server.sent =
+    subst (λ (z : List ℕ × List ℕ). CallerMaySend c.replies.own c.requests.chunk c.requests.input z.0 z.1) (λ i. ((calling.got ∙ caller_got) i, caller_sent i)) (caller_may_send c (view caller.end).sent calling.stands) in
+    let answers : ServingMaySend s.answering.own s.answering.chunk (builtin_owes service) core.client.got core.client.sent =
+    subst (λ (z : List ℕ × List ℕ). ServingMaySend s.answering.own s.answering.chunk (builtin_owes service) z.0 z.1) (λ i. ((answering.got ∙ serving_got) i, serving_sent i))
+    (serving_may_send builtin_owes (builtin_owes service) s (view serving.end).sent answering.stands) in
+    let sent = sides_send_little core c.replies.own c.requests.chunk s.answering.own s.answering.chunk c.requests.input service lawful version asks answers in
     let came_left = prefix_length core.server.got core.client.sent lawful.left.lawful.prefix in
     let came_right = prefix_length core.client.got core.server.sent lawful.right.lawful.prefix in
-    let caller_got = ap (λ (side : Side). length side.got) caller_is in
-    let caller_sent = ap (λ (side : Side). length side.sent) caller_is in
-    let serving_got = ap (λ (side : Side). length side.got) serving_is in
-    let serving_sent = ap (λ (side : Side). length side.sent) serving_is in
-    omega (arith, asked, answered, input, outputs, came_left, came_right, caller_got, caller_sent, serving_got, serving_sent)
+    omega (arith, sent, came_left, came_right, ap (λ (xs : List ℕ). length xs) caller_got, ap (λ (xs : List ℕ). length xs) caller_sent, ap (λ (xs : List ℕ). length xs) serving_got, ap (λ (xs : List ℕ). length xs) serving_sent)
 
 -- ---- control pages
 

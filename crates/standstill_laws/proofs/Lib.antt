@@ -18,5 +18,6 @@ mod BoundLaws
 mod SumLaws
 mod PriceLaws
 mod TrafficLaws
+mod WorkLaws
 mod KeepingLaws
 mod StretchLaws

@@ -13,5 +13,6 @@ pub mod Standstill
 pub mod Counting
 pub mod Bounds
 pub mod Traffic
+pub mod Work
 pub mod Keeping
 pub mod Stretch

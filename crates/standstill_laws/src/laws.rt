@@ -15,6 +15,7 @@ ghost use Rattle.standstill_laws.specs.Keeping.{FindingsStay};
 ghost use Rattle.standstill_laws.specs.Counting.{TurnsAreBounded};
 ghost use Rattle.standstill_laws.specs.Bounds.{AgentsSayFew, OutboxesHoldFew, SessionsSendLittle, SessionWorkIsBounded};
 ghost use Rattle.standstill_laws.specs.Traffic.{AgentsSpeak, ControlMessagesAreFew, ControlBytesAreFew};
+ghost use Rattle.standstill_laws.specs.Work.{SidesSendSo, RunWorkIsBounded, RunTurnsAreBounded};
 ghost use Rattle.standstill_laws.specs.Stretch.{ControlPagesRest, DataPagesRest, StretchesRest};
 ghost use Rattle.standstill_laws.specs.Order.{EndsComeInOrder, NoneIsEarly, AgentsHearInOrder};
 
@@ -220,6 +221,23 @@ pub fn control_messages_are_few()
 /// those of the service's name.
 pub fn control_bytes_are_few()
     ensures { ControlBytesAreFew }
+{}
+
+/// What a side of a session has sent, by what it has got and by the input of its call or by its service, while the session
+/// is open and before it begins.
+pub fn sides_send_so()
+    ensures { SidesSendSo }
+{}
+
+/// All tasks of a run between honest domains have done no more than a number that its calls and the names of its domains
+/// give, if each data page is that of a call of its own.
+pub fn run_work_is_bounded()
+    ensures { RunWorkIsBounded }
+{}
+
+/// So they make no more turns than that number gives, if there aren't so many in a row that all did nothing.
+pub fn run_turns_are_bounded()
+    ensures { RunTurnsAreBounded }
 {}
 
 /// Pages that stand still exist, whatever their orders: one that was just opened, by what a drain of it loads.
