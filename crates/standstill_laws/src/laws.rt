@@ -205,14 +205,15 @@ pub fn outboxes_hold_few()
     ensures { OutboxesHoldFew }
 {}
 
-/// An agent has said triggers of its calls, in their order and each once, and the end of each session that it owes to
-/// report by what it has heard, each once: after each turn, and when it is done.
+/// An agent has said triggers of its calls, in their order and each at most once, and ends of sessions that it owes to
+/// report by what it has heard, each at most once: after each turn, and when it is done.
 pub fn agents_speak()
     ensures { AgentsSpeak }
 {}
 
-/// So all control channels of a run between honest domains carry at most two greetings for each domain, and five messages
-/// for each of its calls: a trigger, a Connect, an Exec, and the reports of both sides that the session has ended.
+/// So all control channels of a run between honest domains carry at most two greetings for each domain, and five
+/// messages for each of its calls: a trigger, a Connect, an Exec, and the reports of both sides that the session has
+/// ended.
 pub fn control_messages_are_few()
     ensures { ControlMessagesAreFew }
 {}
@@ -223,14 +224,14 @@ pub fn control_bytes_are_few()
     ensures { ControlBytesAreFew }
 {}
 
-/// What a side of a session has sent, by what it has got and by the input of its call or by its service, while the session
-/// is open and before it begins.
+/// What a side of a session has sent, by what it has got and by the input of its call or by its service, while the
+/// session is open and before it begins.
 pub fn sides_send_so()
     ensures { SidesSendSo }
 {}
 
-/// All tasks of a run between honest domains have done no more than a number that its calls and the names of its domains
-/// give, if each data page is that of a call of its own.
+/// All tasks of a run between honest domains have done no more than a number that its calls and the names of its
+/// domains give, if each data page is that of a call of its own.
 pub fn run_work_is_bounded()
     ensures { RunWorkIsBounded }
 {}
