@@ -236,7 +236,8 @@ pub fn run_work_is_bounded()
     ensures { RunWorkIsBounded }
 {}
 
-/// So they make no more turns than that number gives, if there aren't so many in a row that all did nothing.
+/// So if there aren't so many turns in a row that all did nothing, the turns of such a run after which a task goes on
+/// are fewer than that number times one more than this.
 pub fn run_turns_are_bounded()
     ensures { RunTurnsAreBounded }
 {}
