@@ -160,15 +160,15 @@ fn pass_in_threads<R: Clock + Print + Threads + Sync>(
     requires server { server ≡ record { page = page.now; role = Server } }
     requires client { client ≡ record { page = page.now; role = Client } }
 {
-    let total = piece.len() as u64 * u64::from(pieces);
+    let total = (piece.len() as u64).saturating_mul(u64::from(pieces));
     let start = Instant::now(rt)?;
     let (got, _) = join(
         rt,
         || -> u64
-            requires { server ≡ record { page = page; role = Server } }
+            requires { server ≡ record { page = page.now; role = Server } }
         { server_receives(page, server, buf, total) },
         ||
-            requires { client ≡ record { page = page; role = Client } }
+            requires { client ≡ record { page = page.now; role = Client } }
         { client_pours(page, client, piece, pieces) },
     );
     let nanos = start.elapsed(rt)?.as_nanos();
