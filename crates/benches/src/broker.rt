@@ -47,7 +47,7 @@ pub fn measured<R: CpuClock + Print + AllocGlobal>(rt: &R, count: u32) -> Result
     measured_at(rt, &mut broker, count)
 }
 
-// The events that this broker is told.
+// Prints the time of the events that this broker is told.
 fn measured_at<R: CpuClock + Print + AllocGlobal>(
     rt: &R,
     broker: &mut Broker,

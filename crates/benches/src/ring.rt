@@ -72,7 +72,7 @@ pub fn measured<R: CpuClock + Print + AllocGlobal>(rt: &R, rounds: Rounds) -> Re
     measured_on_page(rt, rounds, data.as_slice(), buf.as_mut_slice())
 }
 
-// The rounds on a page of their own.
+// Makes the rounds on a page of their own.
 fn measured_on_page<R: CpuClock + Print + AllocGlobal>(
     rt: &R,
     rounds: Rounds,
@@ -85,7 +85,7 @@ fn measured_on_page<R: CpuClock + Print + AllocGlobal>(
     measured_between(rt, rounds, &mut client, &mut server, data, buf)
 }
 
-// The rounds between two ends.
+// Makes the rounds between two ends, and prints what they took.
 fn measured_between<R: CpuClock + Print>(
     rt: &R,
     rounds: Rounds,

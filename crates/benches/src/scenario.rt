@@ -29,7 +29,7 @@ pub fn measured<R: Clock + Files + Print + AllocGlobal>(rt: &R, path: &str) -> R
     measured_on(rt, file.as_slice())
 }
 
-// The two times on a file's bytes.
+// Prints the two times on a file's bytes.
 fn measured_on<R: Clock + Print + AllocGlobal>(rt: &R, file: &[u8]) -> Result<()> {
     let start = Instant::now(rt)?;
     if toml::table_from_slice(rt.alloc(), file).is_err() {

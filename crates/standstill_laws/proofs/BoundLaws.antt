@@ -1,15 +1,13 @@
 -- How much a session sends at most, how much both its sides do, and how many messages an agent says and an outbox holds.
 use Rattle.std.proofs.Common.{◌≡◌, ℕ, ◌+◌, ◌*◌, ◌<◌, ◌≤◌, zero, suc, Bool, true, false, List, [], ◌∷◌, ◌++◌, length, length-append, append-nil, map, take, if◌then◌else◌, Option, Some, None, refl, sym, ap, ◌∙◌, subst, arith}
-use Rattle.std.specs.Prelude.{◌%◌, ◌^◌, decimal, min, filter, filter_map, ◌==◌, IsSomeAnd, nat_lt, not, MatchBool, MatchOption}
+use Rattle.std.specs.Prelude.{◌%◌, ◌^◌, decimal, min, filter, filter_map, ◌==◌, nat_lt, not, MatchBool, MatchOption}
 use Rattle.std.specs.Char.{to_ascii_uppercase}
 use Rattle.std.proofs.Common.{lit<}
 use Rattle.std.proofs.lemmas.Fmt.{length-decimal-le}
 use Rattle.std.proofs.lemmas.List.{length-map, length-take, map-append}
-use Rattle.std.proofs.lemmas.List.Sorted.{length_permutation}
 use Rattle.std.proofs.lemmas.Bool.Decides.{nat_tests}
 use Rattle.std.specs.List.{flat_map, cons_option, AllByRecursion as Each}
 use Rattle.list_laws.specs.Lists.{IsPrefixOf}
-use Rattle.list_laws.proofs.Each.{each_weaker}
 use Rattle.list_laws.proofs.Prefixes.{prefix_length, prefix_trans}
 use Rattle.vchan_protocol.specs.declared.side.Side.{Side}
 use Rattle.vchan_protocol.specs.History.Core.{Core}
@@ -25,7 +23,7 @@ use Rattle.qrexec_frame.specs.Streams.{Placed, Ending, Begins as BeginsWith}
 use Rattle.qrexec_frame.proofs.StreamLaws.{begins}
 use Rattle.qrexec_frame.proofs.GrammarLaws.{is_prefix_code}
 use Rattle.qrexec_frame.proofs.WrittenLaws.{is_read_again}
-use Rattle.qrexec_frame.specs.Messages.{written, IsSpellable}
+use Rattle.qrexec_frame.specs.Messages.{written}
 use Rattle.qrexec_frame.specs.Names.{cleaned_service}
 use Rattle.service_gate.specs.Triple.{Triple}
 use Rattle.service_gate.specs.ServiceResult.{count_line, every_other}
@@ -45,17 +43,10 @@ use Rattle.call_broker.specs.declared.decision.Decision.TheVariants.{Accepted, R
 use Rattle.call_broker.specs.declared.event.Event.{Event}
 use Rattle.call_broker.specs.declared.event.Event.TheVariants as event
 use Rattle.call_broker.specs.Domains.{name_of}
-use Rattle.call_queue.specs.Queue.{asked_by}
-use Rattle.agent_control.specs.declared.control.AgentControl.{AgentControl}
-use Rattle.task_duties.specs.Hearing.{to_broker}
 use Rattle.task_duties.specs.Words.{exec_line}
 use Rattle.task_duties.specs.Broker.Outbox.{only_if, puts, outbox}
-use Rattle.task_duties.specs.Agent.Saying.{asking, asking_of}
-use Rattle.agent_task.specs.Ends.{session_told, session_asked, session_of_answer}
-use Rattle.agent_task.specs.State.{IsChannelOf, answers_so_far}
-use Rattle.agent_task.specs.Telling.{heard_on}
 use Rattle.standstill_laws.proofs.SessionLaws.{good_hello, input_good, most_fits}
-use Rattle.standstill_laws.specs.Bounds.{most_requested, most_answered, SessionsSendLittle, SessionWorkIsBounded, AgentsSayFew, OutboxesHoldFew}
+use Rattle.standstill_laws.specs.Bounds.{most_requested, most_answered, SessionsSendLittle, SessionWorkIsBounded, OutboxesHoldFew}
 
 -- ---- messages
 
@@ -363,52 +354,6 @@ filtered_few {X} {Y} f (x ∷ xs) = by (f x) (filtered_few f xs)
     by : (found : Option Y) → length (filter_map f xs) ≤ length xs → length (cons_option found (filter_map f xs)) ≤ suc (length xs)
     by None few = omega (arith, few)
     by (Some y) few = omega (arith, few)
-
--- what may be said to the broker is a trigger or an end
-said_few : (said : List Message) → Each (λ m. to_broker m ≡ true) said → length said ≤ length (filter_map asking said) + length (filter_map session_told said)
-said_few [] each = omega arith
-said_few (m ∷ said) each = by m each.0 (said_few said each.1)
-  where
-    by : (n : Message) → to_broker n ≡ true → length said ≤ length (filter_map asking said) + length (filter_map session_told said)
-        → suc (length said) ≤ length (cons_option (asking n) (filter_map asking said)) + length (cons_option (session_told n) (filter_map session_told said))
-    by (Trigger3 target ident service) may few = omega (arith, few)
-    by (Trigger target ident service) may few = omega (arith, few)
-    by (Terminated domain port) may few = omega (arith, few)
-    by (Hello version) may few = cc
-    by (Stdin bytes) may few = cc
-    by (Stdout bytes) may few = cc
-    by (Stderr bytes) may few = cc
-    by (ExitCode code) may few = cc
-    by (Exec domain port line) may few = cc
-    by (JustExec domain port line) may few = cc
-    by (Connect domain port ident) may few = cc
-    by (Refused ident) may few = cc
-
-pub agents_say_few_lem : AgentsSayFew
-agents_say_few_lem task tells = by task.channel tells.acts.channel
-  where
-    said : List Message
-    said = tells.once.said
-
-    heard : List Message
-    heard = (heard_on task.plan task.control).messages
-
-    by : (channel : Option AgentControl) → IsSomeAnd channel (IsChannelOf task said) → length said ≤ 2 * length task.plan.calls + length heard
-    by (Some c) is =
-        let parts = said_few said (each_weaker (λ m. (to_broker m ≡ true) × IsSpellable m) (λ m. to_broker m ≡ true) (λ m may. may.0) said tells.once.says.each) in
-        let calls = ap (λ xs. length xs) is.calls in
-        let asked = ap (λ xs. length xs) is.answered in
-        let mapped = length-map (asked_by c.queue) (λ a. a.call) in
-        let triggers = ap (λ xs. length xs) is.asks in
-        let taken = length-take c.queue.next (map asking_of task.plan.calls) in
-        let all = length-map task.plan.calls asking_of in
-        let told = length_permutation _ _ tells.once.told.1 in
-        let parted = length-append (filter_map session_told said) tells.once.told.0 in
-        let own = filtered_few (λ a. session_of_answer a.answer) (answers_so_far task).asked in
-        let served = filtered_few session_asked heard in
-        let owed = length-append (filter_map (λ a. session_of_answer a.answer) (answers_so_far task).asked) (filter_map session_asked heard) in
-        omega (arith, parts, calls, asked, mapped, triggers, taken, all, told, parted, own, served, owed)
-    by None is = absurd is
 
 pub outboxes_hold_few_lem : OutboxesHoldFew
 outboxes_hold_few_lem hub [] d = omega arith

@@ -88,7 +88,7 @@ asked_all d a (m ∷ heard) = asked_all d (takes d a m) heard ∙ asked_one d a 
 module _ (cost : Message → ℕ) (ask : Asking → ℕ) (report : ℕ) (reply : List ℕ → Asking → ℕ) (prices : Prices cost ask report reply) where
   -- ---- what an agent says
 
-  said_costs : (said : List Message) → Each (λ m. to_broker m ≡ true) said → sum_by cost said ≤ sum_by ask (filter_map asking said) + sum_by (λ s. report) (filter_map session_told said)
+  pub said_costs : (said : List Message) → Each (λ m. to_broker m ≡ true) said → sum_by cost said ≤ sum_by ask (filter_map asking said) + sum_by (λ s. report) (filter_map session_told said)
   said_costs [] each = omega arith
   said_costs (m ∷ said) each = by m each.0 (said_costs said each.1)
     where

@@ -3,9 +3,11 @@ use Rattle.std.proofs.Common.{◌≡◌, ℕ, ◌+◌, ◌*◌, ◌<◌, ◌≤�
 use Rattle.std.specs.Prelude.{◌⊎◌, codes, filter_map, IsSomeAnd}
 use Rattle.std.specs.List.{sum_by, flat_map, AllByRecursion as Each}
 use Rattle.std.proofs.Common.{lit<}
-use Rattle.std.proofs.lemmas.List.{length-map, take-append-drop}
+use Rattle.std.proofs.lemmas.List.{length-map, length-take, take-append-drop}
 use Rattle.std.proofs.lemmas.List.Recursion.{is_sum_by}
 use Rattle.std.proofs.lemmas.List.Sums.{sum_by-cons}
+use Rattle.std.proofs.lemmas.List.Sorted.{length_permutation}
+use Rattle.list_laws.proofs.Each.{each_weaker}
 use Rattle.list_laws.specs.Lists.{IsPrefixOf}
 use Rattle.end_view.specs.EndView.{EndView}
 use Rattle.qrexec_frame.specs.declared.kind.Channel.TheVariants.{Control}
@@ -36,12 +38,16 @@ use Rattle.task_duties.specs.Agent.Saying.{asking, asking_of}
 use Rattle.task_duties.specs.Agent.Owes.{AgentOwes}
 use Rattle.task_duties.proofs.ControlLaw.{OnControl, agent_on_control, broker_on_control, all_heard}
 use Rattle.agent_control.specs.declared.control.AgentControl.{AgentControl}
-use Rattle.agent_task.specs.State.{AgentState, TellsSoFar, IsChannelOf}
-use Rattle.agent_task.specs.Telling.{TellsOnce}
+use Rattle.agent_task.specs.State.{AgentState, TellsSoFar, IsChannelOf, answers_so_far}
+use Rattle.agent_task.specs.Telling.{TellsOnce, heard_on}
+use Rattle.agent_task.specs.Ends.{session_told, session_asked, session_of_answer}
+use Rattle.call_queue.specs.Queue.{asked_by}
 use Rattle.broker_task.specs.Standing.{IsAttended}
 use Rattle.standstill_laws.specs.Traffic.{HasSpoken, AgentsSpeak, IsControlPage, messages_across, bytes_across, ControlMessagesAreFew, call_bytes, ControlBytesAreFew}
 use Rattle.standstill_laws.proofs.ControlLaws.{all_good}
-use Rattle.standstill_laws.proofs.PriceLaws.{Prices, all_costs}
+use Rattle.standstill_laws.specs.Bounds.{AgentsSayFew}
+use Rattle.standstill_laws.proofs.BoundLaws.{filtered_few}
+use Rattle.standstill_laws.proofs.PriceLaws.{Prices, said_costs, all_costs}
 use Rattle.standstill_laws.proofs.SumLaws.{sum_more}
 
 -- ---- what an agent has said
@@ -95,6 +101,32 @@ counted = record {
   accepts = λ from to port name target ident service. omega arith;
   refuses = λ name target ident service. omega arith;
 }
+
+pub agents_say_few_lem : AgentsSayFew
+agents_say_few_lem task tells = by task.channel tells.acts.channel
+  where
+    said : List Message
+    said = tells.once.said
+
+    heard : List Message
+    heard = (heard_on task.plan task.control).messages
+
+    by : (channel : Option AgentControl) → IsSomeAnd channel (IsChannelOf task said) → length said ≤ 2 * length task.plan.calls + length heard
+    by (Some c) is =
+        let parts = said_costs (λ m. 1) (λ a. 1) 1 (λ name a. 3) counted said (each_weaker (λ m. (to_broker m ≡ true) × IsSpellable m) (λ m. to_broker m ≡ true) (λ m may. may.0) said tells.once.says.each) in
+        let calls = ap (λ xs. length xs) is.calls in
+        let asked = ap (λ xs. length xs) is.answered in
+        let mapped = length-map (asked_by c.queue) (λ a. a.call) in
+        let triggers = ap (λ xs. length xs) is.asks in
+        let taken = length-take c.queue.next (map asking_of task.plan.calls) in
+        let all = length-map task.plan.calls asking_of in
+        let told = length_permutation _ _ tells.once.told.1 in
+        let parted = length-append (filter_map session_told said) tells.once.told.0 in
+        let own = filtered_few (λ a. session_of_answer a.answer) (answers_so_far task).asked in
+        let served = filtered_few session_asked heard in
+        let owed = length-append (filter_map (λ a. session_of_answer a.answer) (answers_so_far task).asked) (filter_map session_asked heard) in
+        omega (arith, parts, each_one said, each_one (filter_map asking said), each_one (filter_map session_told said), calls, asked, mapped, triggers, taken, all, told, parted, own, served, owed)
+    by None is = absurd is
 
 spoken_version : IsVersion broker_version
 spoken_version = record { least = omega arith; small = lit< tt }

@@ -231,7 +231,8 @@ pub fn sides_send_so()
 {}
 
 /// All tasks of a run between honest domains have done no more than a number that its calls and the names of its
-/// domains give, if each data page is that of a call of its own.
+/// domains give, if each data page is that of a call of its own, and no more came and went in a task than on the ends
+/// of its pages.
 pub fn run_work_is_bounded()
     ensures { RunWorkIsBounded }
 {}
