@@ -1,7 +1,8 @@
 -- An unused end that was found, and what contracts see after it is put to use.
-use Rattle.std.proofs.Common.{◌≡◌, ℕ, List, get_or, refl, ap, sym, ◌∙◌, Option, Some}
-use Rattle.std.specs.Prelude.{slice_get, Bool}
-use Rattle.std.proofs.lemmas.Option.{get_or_from_slice_get}
+use Rattle.std.proofs.Common.{◌≡◌, ℕ, ◌<◌, List, length, subst, get_or, refl, ap, sym, ◌∙◌, Option, Some}
+use Rattle.std.specs.Prelude.{slice_get, Bool, false}
+use Rattle.std.proofs.lemmas.Option.{get_or_from_slice_get, slice_get_within}
+use Rattle.std.proofs.lemmas.List.{length-map}
 use Rattle.std.specs.List.{AllByRecursion as Each}
 use Rattle.list_laws.proofs.Places.{get_map, get_map_back}
 use Rattle.list_laws.proofs.Each.{each_get}
@@ -14,10 +15,22 @@ use Rattle.task_duties.specs.declared.done.SessionEnd.{SessionEnd}
 use Rattle.data_slots.specs.declared.slot.Slot.{Slot}
 use Rattle.data_slots.specs.declared.stage.Stage.{Stage}
 use Rattle.data_slots.specs.declared.stage.Stage.TheVariants.{Unused, Calls, Awaits, Serves, CallIsOver, ServingIsOver, Taken}
-use Rattle.data_slots.specs.Sessions.{Session}
+use Rattle.data_slots.specs.Sessions.{Session, AwaitsPage, session_of}
+use Rattle.std.specs.declared.snapshot.Snapshot.{Snapshot}
+use Rattle.atomic_table.specs.Seated.{TableId}
+use Rattle.qrexec_data.specs.ServingSide.{ServingState}
+use Rattle.task_duties.specs.declared.ends.UnusedEnd.{UnusedEnd}
 use Rattle.data_slots.specs.Slots.{Held, Called, Serves as ServedHere, SlotsState, IsEndOf}
-use Rattle.data_slots.specs.Stages.{ForNothing, ForCall, ForServing, Frame, place_of, frame_of, use_of, end_of, IsStage, IsUnusedBy}
-use Rattle.data_slots.specs.Whole.{frames, held_in, IsUsedAt}
+use Rattle.data_slots.specs.Stages.{Use, ForNothing, ForCall, ForServing, Frame, place_of, frame_of, use_of, end_of, IsStage, IsUnusedBy}
+use Rattle.data_slots.specs.Whole.{frames, held_in, IsUsedAt, IsWhole, state_of}
+use Rattle.data_slots.specs.declared.ends.Ends.{Ends}
+
+-- ends that memory sufficed for are whole
+pub whole_of : (e : Ends) (spent : Bool) (s : SlotsState) → state_of e spent ≡ s → s.spent ≡ false → (spent ≡ false → IsWhole e) → IsWhole e
+whole_of e spent s is unspent whole = whole (ap (λ (x : SlotsState). x.spent) is ∙ unspent)
+
+pub state_is : (e : Ends) (spent : Bool) (s : SlotsState) → state_of e spent ≡ s → s.spent ≡ false → state_of e false ≡ s
+state_is e spent s is unspent = ap (state_of e) (sym (ap (λ (x : SlotsState). x.spent) is ∙ unspent)) ∙ is
 
 -- a slot whose end is unused
 pub record IsFree (slots : List Slot) (at : ℕ) (place : PagePlace) (slot : Slot) : Type 0 where
@@ -34,6 +47,31 @@ is_free slots at place slot used read =
       unused = ap (λ s. use_of s.stage) same ∙ ap (λ (f : Frame). f.used) back.2;
       lies = ap place_of same ∙ (ap (λ (f : Frame). f.held.place) back.2 ∙ used.lies);
     }
+
+-- an end that was found is one of the list
+pub used_within : (slots : List Slot) (at : ℕ) (place : PagePlace) (used : Use) → IsUsedAt (frames slots) at place used → at < length slots
+used_within slots at place used h =
+    let end : Frame = record { held = h.held; used = used; late = h.late } in
+    subst (λ n. at < n) (length-map slots frame_of) (slice_get_within (frames slots) at end h.is)
+
+-- the end of a stage that is unused, and of one that awaits its page
+pub unused_end : (role : Role) (stage : Stage) → IsUnusedBy role stage → (end : UnusedEnd) × (stage ≡ Unused end)
+unused_end role (Unused end) h = (end, refl)
+unused_end role (Calls number input side session) h = absurd h
+unused_end role (Awaits number service serving side) h = absurd h
+unused_end role (Serves number service side session) h = absurd h
+unused_end role (CallIsOver number input done end) h = absurd h
+unused_end role (ServingIsOver number service outcome got end) h = absurd h
+unused_end role Taken h = absurd h
+
+pub awaits_page : (stage : Stage) {P : Type 0} → session_of stage ≡ AwaitsPage → ((number : ℕ) (service : Snapshot Builtin) (serving : ServingState Builtin) (side : TableId) → stage ≡ Awaits number service serving side → P) → P
+awaits_page (Awaits number service serving side) h go = go number service serving side refl
+awaits_page (Unused end) h go = cc
+awaits_page (Calls number input side session) h go = cc
+awaits_page (Serves number service side session) h go = cc
+awaits_page (CallIsOver number input done end) h go = cc
+awaits_page (ServingIsOver number service outcome got end) h go = cc
+awaits_page Taken h go = cc
 
 server_role : (domain f t p : ℕ) (role : Role) → f ≡ domain → IsEndOf domain (Payload f t p) role → role ≡ Server
 server_role domain f t p Server same h = refl

@@ -1,6 +1,6 @@
 -- All ends while they are retired one after another, and what they report.
 use Rattle.std.proofs.Common.{◌≡◌, ◌≢◌, ℕ, ◌+◌, ◌≤◌, zero, suc, List, [], ◌∷◌, ◌++◌, map, refl, ap, sym, ◌∙◌, arith, append_assoc, subst, Option, Some, None, inr}
-use Rattle.std.specs.Prelude.{false, slice_get, option_map, option_and_then, IsSome}
+use Rattle.std.specs.Prelude.{Bool, false, slice_get, option_map, option_and_then, IsSome}
 use Rattle.std.proofs.lemmas.List.{map-append}
 use Rattle.std.specs.List.{AllByRecursion as Each, AllZip as EachPair}
 use Rattle.list_laws.proofs.Each.{each_push, some_get}
@@ -18,11 +18,12 @@ use Rattle.data_slots.specs.declared.note.CallNote.{CallNote}
 use Rattle.data_slots.specs.declared.note.ServedNote.{ServedNote}
 use Rattle.data_slots.specs.declared.done.SessionDone.{SessionDone}
 use Rattle.data_slots.specs.declared.done.SessionDone.TheVariants.{Nothing, Call, Serving}
-use Rattle.data_slots.specs.Slots.{Held, held_at}
+use Rattle.data_slots.specs.Slots.{Held, held_at, SlotsState}
+use Rattle.data_slots.specs.declared.ends.Ends.{Ends}
 use Rattle.data_slots.specs.Done.{AreBack, ReportsCalled, ReportsServes}
 use Rattle.data_slots.specs.Reports.{call_in, served_in}
 use Rattle.data_slots.specs.Stages.{Use, ForCall, ForServing, Frame, place_of, frame_of, use_of, is_session, CanRetire, IsStage, IsReportOf}
-use Rattle.data_slots.specs.Whole.{frames, held_in, called_of, serves_of, IsUsedAt, HaveEnds}
+use Rattle.data_slots.specs.Whole.{frames, held_in, called_of, serves_of, IsUsedAt, HaveEnds, IsWhole, state_of}
 use Rattle.data_slots.specs.Finished.{AreReported, AreFinished, AreCalls, AreServings, KeepsServings, HasCall, IsElsewhere, KeepsOthers, call_at, served_at}
 
 pub append-nil : {A : Type 0} (xs : List A) → xs ++ [] ≡ xs
@@ -219,6 +220,22 @@ reports_serves version domain fs first ends reports calls served done h have sam
     each m n is =
         let u = used_at version fs ends reports n.at (Payload n.from domain n.port) (ForServing m n.service.value) h (have.serving m n is) in
         reports_of m n u.end u.report u.end_is u.lies u.report_is u.is
+
+-- the reports as contracts promise them, of ends that come back
+pub all_called : (e : Ends) (seen : SlotsState) (spent : Bool) (first : EndAt) (ends : List EndAt) (reports : List SessionDone) (done : List (Option CallOver)) → state_of e spent ≡ seen → IsWhole e
+    → AreFinished first e.slots.items ends reports → done ≡ map (call_at reports) e.calls.items → EachPair (ReportsCalled seen.domain seen.version ends) seen.called done
+all_called e seen spent first ends reports done is whole all done_are =
+    subst (λ (s : SlotsState). EachPair (ReportsCalled s.domain s.version ends) s.called done) is
+    (subst (λ es. EachPair (ReportsCalled e.domain e.version es) (map (option_map called_of) e.calls.items) done) (sym all.back.are)
+    (subst (λ ds. EachPair (ReportsCalled e.domain e.version (first ∷ all.back.rest)) (map (option_map called_of) e.calls.items) ds) (sym done_are)
+    (reports_called e.version e.domain (frames e.slots.items) first all.back.rest reports e.calls.items e.served.items (all.reported e.version whole.stages) whole.have_ends)))
+
+pub all_served : (e : Ends) (seen : SlotsState) (spent : Bool) (first : EndAt) (ends : List EndAt) (reports : List SessionDone) (done : List ServedDone) → state_of e spent ≡ seen → IsWhole e
+    → AreFinished first e.slots.items ends reports → map Some done ≡ map (served_at reports) e.served.items → EachPair (ReportsServes seen.domain seen.version ends) seen.served done
+all_served e seen spent first ends reports done is whole all done_are =
+    subst (λ (s : SlotsState). EachPair (ReportsServes s.domain s.version ends) s.served done) is
+    (subst (λ es. EachPair (ReportsServes e.domain e.version es) (map serves_of e.served.items) done) (sym all.back.are)
+    (reports_serves e.version e.domain (frames e.slots.items) first all.back.rest reports e.calls.items e.served.items done (all.reported e.version whole.stages) whole.have_ends done_are))
 
 -- ---- reports that are taken out one after another
 

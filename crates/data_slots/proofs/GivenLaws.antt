@@ -1,5 +1,5 @@
 -- Ends that were just given are whole.
-use Rattle.std.proofs.Common.{◌≡◌, ℕ, zero, suc, List, [], ◌∷◌, map, replicate, refl, ap, sym, Option, Some, None}
+use Rattle.std.proofs.Common.{◌≡◌, ℕ, zero, suc, List, [], ◌∷◌, length, map, replicate, refl, ap, sym, ◌∙◌, subst, Option, Some, None}
 use Rattle.std.specs.Prelude.{false, Bool, ◌≤◌, slice_get, unwrap_or, option_map, if◌then◌else◌}
 use Rattle.std.specs.List.{cons_option, AllByRecursion as Each}
 use Rattle.task_duties.specs.declared.place.PagePlace.TheVariants.{Payload}
@@ -13,7 +13,11 @@ use Rattle.data_slots.specs.Stages.{IsStage, CanRetire}
 use Rattle.data_slots.specs.Index.{PlaceIndex, IsIndexOf}
 use Rattle.data_slots.specs.Given.{unused_slots}
 use Rattle.data_slots.specs.Sides.{is_late_unused, late_places}
-use Rattle.data_slots.specs.Whole.{frames, held_in, places, sessions, unused_in, late_in, called_of, IsNoted, AreWhole}
+use Rattle.data_slots.specs.Whole.{frames, held_in, places, sessions, unused_in, late_in, called_of, IsNoted, AreWhole, state_with}
+use Rattle.data_slots.specs.Sessions.{NotBegun}
+use Rattle.data_slots.specs.declared.slot.Slot.{Slot}
+use Rattle.data_slots.proofs.BeginLaws.{same_state}
+use Rattle.data_slots.proofs.SessionLaws.{given_sessions}
 
 pub given_places : (ends : List DataEnd) → places (unused_slots ends) ≡ places_in (all_given ends)
 given_places [] = refl
@@ -64,7 +68,7 @@ pub called_none : (count : ℕ) → map (option_map called_of) (replicate count 
 called_none zero = refl
 called_none (suc count) = ap (λ (os : List (Option Called)). None ∷ os) (called_none count)
 
-pub given_whole : (domain version : ℕ) (ends : List DataEnd) (index : PlaceIndex) (count : ℕ) → (2 ≤ version) × (version ≤ 3) → Each (IsGiven domain) (all_given ends) → IsIndexOf (places (unused_slots ends)) index
+given_whole : (domain version : ℕ) (ends : List DataEnd) (index : PlaceIndex) (count : ℕ) → (2 ≤ version) × (version ≤ 3) → Each (IsGiven domain) (all_given ends) → IsIndexOf (places (unused_slots ends)) index
     → AreWhole domain version (unused_slots ends) index [] (replicate count None) []
 given_whole domain version ends index count version_is given indexed = record {
   version_is = version_is;
@@ -78,3 +82,31 @@ given_whole domain version ends index count version_is given indexed = record {
   where
     none : (m : ℕ) (n : ServedNote) → slice_get [] m ≡ Some n → ⊥
     none m n is = cc
+
+pub made_whole : (domain version : ℕ) (ends : List DataEnd) (slots : List Slot) (index : PlaceIndex) (busy : List ℕ) (calls : List (Option CallNote)) (count : ℕ) (served : List ServedNote)
+    → slots ≡ unused_slots ends → busy ≡ [] → calls ≡ replicate count None → served ≡ [] → (2 ≤ version) × (version ≤ 3) → Each (IsGiven domain) (all_given ends) → IsIndexOf (places_in (all_given ends)) index
+    → AreWhole domain version slots index busy calls served
+made_whole domain version ends slots index busy calls count served s b k v version_is given indexed =
+    rw (s, b, k, v) (given_whole domain version ends index count version_is given (subst (λ ps. IsIndexOf ps index) (sym (given_places ends)) indexed))
+
+-- what contracts see of them
+pub given_state : (domain version : ℕ) (ends : List DataEnd) (slots : List Slot) (busy : List ℕ) (calls : List (Option CallNote)) (count : ℕ) (served : List ServedNote) (spent : Bool)
+    → slots ≡ unused_slots ends → busy ≡ [] → calls ≡ replicate count None → served ≡ [] → spent ≡ false → state_with domain version slots busy calls served spent ≡ record {
+      domain = domain;
+      version = version;
+      held = map held_at (all_given ends);
+      unused = places_in (all_given ends);
+      late = late_places ends;
+      called = replicate count None;
+      served = [];
+      opened = [];
+      sessions = replicate (length ends) NotBegun;
+      spent = false;
+    }
+given_state domain version ends slots busy calls count served spent s b k v f =
+    ap (λ x. state_with domain version x busy calls served spent) s
+    ∙ (ap (λ x. state_with domain version (unused_slots ends) x calls served spent) b
+    ∙ (ap (λ x. state_with domain version (unused_slots ends) [] x served spent) k
+    ∙ (ap (λ x. state_with domain version (unused_slots ends) [] (replicate count None) x spent) v
+    ∙ (ap (state_with domain version (unused_slots ends) [] (replicate count None) []) f
+    ∙ same_state domain version _ _ _ _ _ _ _ _ _ _ _ _ _ _ false (given_held ends) (given_unused ends) (given_late ends) (called_none count) refl refl (given_sessions ends)))))

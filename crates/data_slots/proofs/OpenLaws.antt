@@ -7,8 +7,8 @@ use Rattle.std.proofs.lemmas.Bool.Decides.{nat_tests}
 use Rattle.list_laws.proofs.Places.{get_set_same, get_set_other}
 use Rattle.list_laws.proofs.Tests.{same_number}
 use Rattle.data_slots.specs.declared.slot.Slot.{Slot}
-use Rattle.data_slots.specs.Stages.{is_session}
-use Rattle.data_slots.specs.Whole.{times, sessions, AreOpen}
+use Rattle.data_slots.specs.Stages.{Frame, is_session}
+use Rattle.data_slots.specs.Whole.{times, sessions, opened_in, AreOpen}
 
 pub other_number : (i j : ℕ) → (i == j) ≡ false → j ≢ i
 other_number i j h e = let self : (i == i) ≡ true = grind (arith, nat_tests) in let k : (i == j) ≡ true = ap (λ n. i == n) e ∙ self in let w : false ≡ true = sym h ∙ k in bad w
@@ -84,3 +84,8 @@ each_shut (s ∷ slots) h = (h 0 (is_session s.stage) refl, each_shut slots (λ 
 
 pub all_shut : (slots : List Slot) (busy : List ℕ) → AreOpen (sessions slots) busy → busy ≡ [] → Each (λ s. is_session s.stage ≡ false) slots
 all_shut slots busy h none = each_shut slots (λ i b is. none_open (sessions slots) i b (subst (λ ns. AreOpen (sessions slots) ns) none h) is)
+
+-- if none is told of as open, the list of their numbers is empty
+pub none_busy : (fs : List Frame) (numbers : List ℕ) → opened_in fs numbers ≡ [] → numbers ≡ []
+none_busy fs [] h = refl
+none_busy fs (n ∷ numbers) h = cc

@@ -1,5 +1,5 @@
 -- The session of an end through a turn, and those of all ends.
-use Rattle.std.proofs.Common.{◌≡◌, ◌≢◌, ℕ, ◌+◌, ◌<◌, ◌≤◌, zero, suc, List, [], ◌∷◌, length, get_or, set, drop, take, replicate, refl, ap, sym, ◌∙◌, subst, arith, add-one, inl, inr, Option, Some, None}
+use Rattle.std.proofs.Common.{◌≡◌, ℕ, ◌+◌, ◌<◌, ◌≤◌, zero, suc, List, [], ◌∷◌, length, get_or, set, drop, take, replicate, refl, ap, sym, ◌∙◌, subst, arith, add-one, inl, inr, Option, Some, None}
 use Rattle.std.specs.Prelude.{true, false, Bool, ◌==◌, ◌-◌, Result, Ok, Err, IfOk, IfNone, slice_get, unwrap_or, if◌then◌else◌}
 use Rattle.std.specs.List.{swap_remove}
 use Rattle.std.proofs.lemmas.List.{map-set, take-set}

@@ -1,5 +1,5 @@
 -- What holds of an end under its page's name.
-use Rattle.std.proofs.Common.{◌≡◌, ℕ, List, sym, subst, ◌∙◌, inl, inr, Vec, Global, Result, Ok, Err}
+use Rattle.std.proofs.Common.{◌≡◌, ℕ, List, ap, sym, subst, ◌∙◌, inl, inr, Vec, Global, Result, Ok, Err}
 use Rattle.std.specs.Prelude.{OnOk}
 use Rattle.std.specs.declared.snapshot.Snapshot.{Snapshot}
 use Rattle.end_view.specs.EndView.{EndView}
@@ -14,20 +14,30 @@ use Rattle.service_gate.specs.Owing.{builtin_owes}
 use Rattle.service_gate.specs.declared.builtin.Builtin.{Builtin}
 use Rattle.channel_session.specs.Calling.{CallerAt, IsCalling, IsSameCall}
 use Rattle.channel_session.specs.Answering.{ServingAt, IsAnswering, IsAtWork}
-use Rattle.data_slots.specs.declared.stage.Stage.TheVariants.{Calls, Serves}
-use Rattle.data_slots.specs.Stages.{IsStage}
+use Rattle.data_slots.specs.declared.stage.Stage.TheVariants.{Unused, Calls, Serves}
+use Rattle.data_slots.specs.declared.stage.Stage.{Stage}
+use Rattle.data_slots.specs.Stages.{Use, Frame, framed, IsStage}
 use Rattle.task_duties.specs.declared.ends.DoneEnd.{DoneEnd}
-use Rattle.task_duties.specs.GivenEnds.{done_view}
+use Rattle.task_duties.specs.declared.ends.UnusedEnd.{UnusedEnd}
+use Rattle.task_duties.specs.GivenEnds.{done_view, fresh_view}
 use Rattle.data_slots.specs.declared.side.PageSide.{PageSide}
 use Rattle.data_slots.specs.declared.side.PageSide.TheVariants as side
 use Rattle.data_slots.specs.Slots.{held_of}
-use Rattle.data_slots.specs.Sides.{seen_under}
+use Rattle.data_slots.specs.Sides.{seen_under, is_late_unused, is_late_side}
 
 -- an end that is the same one as before is held as the same one
 pub same_held : (s : PageSide) (place : PagePlace) (before now : EndView) → now.page ≡ before.page → now.role ≡ before.role → held_of place (seen_under s now) ≡ held_of place (seen_under s before)
 same_held side.Laid place before now page role = λ i. record { place = place; page = page i; role = role i }
 same_held (side.Server s) place before now page role = λ i. record { place = place; page = s.name; role = role i }
 same_held (side.Client c) place before now page role = λ i. record { place = place; page = c.name; role = role i }
+
+-- an unused end that is put to use stays the same end
+pub put_to_use : (place : PagePlace) (stage : Stage) (end : UnusedEnd) (s : PageSide) (now : EndView) (used : Use) → stage ≡ Unused end → seen_under s now ≡ fresh_view end → is_late_side s ≡ is_late_unused end
+    → ◌≡◌ {A = Frame} (record { held = held_of place (seen_under s now); used = used; late = is_late_side s }) (record (framed place stage) { used = used })
+put_to_use place stage end s now used is seen late =
+    let same : ◌≡◌ {A = Frame} (record { held = held_of place (seen_under s now); used = used; late = is_late_side s }) (record { held = held_of place (fresh_view end); used = used; late = is_late_unused end }) =
+    λ i. record { held = held_of place (seen i); used = used; late = late i } in
+    same ∙ ap (λ x. record (framed place x) { used = used }) (sym is)
 
 -- what is reported of an end depends on nothing that the name changes
 closed_named : (e : EndView) (name : TableId) → IsClosed e → IsClosed (named name e)

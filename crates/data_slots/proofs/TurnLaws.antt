@@ -1,6 +1,7 @@
 -- All ends through a turn of one session.
 use Rattle.std.proofs.Common.{◌≡◌, ℕ, ◌<◌, List, [], ◌∷◌, ◌++◌, length, map, set, get_or, refl, ap, sym, ◌∙◌, append_assoc, subst, Option, Some, None}
-use Rattle.std.specs.Prelude.{true, false, slice_get, option_map, IsPermutation}
+use Rattle.std.specs.Prelude.{Bool, true, false, slice_get, option_map, IsPermutation, Result, Ok, Err, OnOk, is_err}
+use Rattle.std.proofs.lemmas.Bool.{false≢true}
 use Rattle.std.specs.List.{swap_remove, AllByRecursion as Each}
 use Rattle.std.proofs.lemmas.List.{append-nil, map-set, length-map}
 use Rattle.std.proofs.lemmas.List.Sorted.{IsPermutation-refl, IsPermutation-trans, IsPermutation-append_right}
@@ -21,9 +22,10 @@ use Rattle.data_slots.specs.Slots.{SlotsState, IsEndOf}
 use Rattle.data_slots.specs.Done.{IsToldOver, IsBegun, TellsMore}
 use Rattle.data_slots.specs.Stages.{Use, ForNothing, ForCall, ForServing, Frame, place_of, frame_of, use_of, is_session, told_of, IsStage, CanTurn, CanRetire}
 use Rattle.data_slots.specs.Index.{PlaceIndex, IsIndexOf}
-use Rattle.data_slots.specs.Whole.{frames, sessions, called_of, serves_of, AreOpen, HaveEnds, IsNoted, AreWhole, IsWhole, state_of, IsTurned, HasSameEnds}
+use Rattle.data_slots.specs.Whole.{frames, held_in, sessions, called_of, serves_of, AreOpen, HaveEnds, IsNoted, AreWhole, IsWhole, state_of, IsTurned, HasSameEnds}
 use Rattle.data_slots.proofs.OpenLaws.{open_at, open_less}
 use Rattle.data_slots.proofs.WholeLaws.{held_set, places_set}
+use Rattle.data_slots.proofs.BeginLaws.{state_is}
 
 -- a slot whose session is open, by its place among the open ones
 pub record IsBusy (slots : List Slot) (at : ℕ) (slot : Slot) : Type 0 where
@@ -186,3 +188,23 @@ turning_on a b c before mid now h turned same retire = record {
   same = (same.0 ∙ h.same.0, same.1 ∙ h.same.1, same.2 ∙ h.same.2);
   retire = retire;
 }
+
+-- ---- a turn of all, as contracts see it
+
+pub same_many : (slots slots' : List Slot) → held_in slots' ≡ held_in slots → length slots' ≡ length slots
+same_many slots slots' same = sym (length-map slots' (λ (s : Slot). (frame_of s).held)) ∙ (ap length same ∙ length-map slots (λ (s : Slot). (frame_of s).held))
+
+-- ends that a turn didn't spend are whole
+pub whole_unspent : (old new : Ends) (before now : List SessionEnd) {T E : Type 0} (r : Result T E) (spent : Bool) → spent ≡ is_err r → OnOk r (IsTurned old new before now) → spent ≡ false → IsWhole new
+whole_unspent old new before now (Ok x) spent is turned unspent = turned.whole
+whole_unspent old new before now (Err x) spent is turned unspent = absurd (false≢true (sym unspent ∙ is))
+
+pub seen_turned : (old new : Ends) (before now : List SessionEnd) {T E : Type 0} (r : Result T E) (was spent : Bool) (s : SlotsState) → spent ≡ is_err r → state_of old was ≡ s → s.spent ≡ false → OnOk r (IsTurned old new before now)
+    → OnOk r ((state_of new spent ≡ record s { opened = (state_of new spent).opened; sessions = (state_of new spent).sessions }) × TellsMore s (state_of new spent) before now)
+seen_turned old new before now (Err x) was spent s is seen unspent turned = tt
+seen_turned old new before now (Ok x) was spent s is seen unspent turned =
+    let from = state_is old was s seen unspent in
+    let to = ap (state_of new) (sym is) in (
+      sym to ∙ (turned.state ∙ ap (λ (x : SlotsState). record x { opened = (state_of new false).opened; sessions = (state_of new false).sessions }) from),
+      subst (λ (x : SlotsState). TellsMore s x before now) to (subst (λ (x : SlotsState). TellsMore x (state_of new false) before now) from turned.told),
+    )

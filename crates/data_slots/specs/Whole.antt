@@ -111,19 +111,22 @@ abbrev pub IsWhole : Ends → Type 0
 IsWhole e = AreWhole e.domain e.version e.slots.items e.index e.busy.items e.calls.items e.served.items
 
 -- the state that contracts see
-abbrev pub state_of : Ends → Bool → SlotsState
-state_of e spent = record {
-  domain = e.domain;
-  version = e.version;
-  held = held_in e.slots.items;
-  unused = unused_in (frames e.slots.items);
-  late = late_in (frames e.slots.items);
-  called = map (option_map called_of) e.calls.items;
-  served = map serves_of e.served.items;
-  opened = opened_in (frames e.slots.items) e.busy.items;
-  sessions = sessions_in e.slots.items;
+abbrev pub state_with : ℕ → ℕ → List Slot → List ℕ → List (Option CallNote) → List ServedNote → Bool → SlotsState
+state_with domain version slots busy calls served spent = record {
+  domain = domain;
+  version = version;
+  held = held_in slots;
+  unused = unused_in (frames slots);
+  late = late_in (frames slots);
+  called = map (option_map called_of) calls;
+  served = map serves_of served;
+  opened = opened_in (frames slots) busy;
+  sessions = sessions_in slots;
   spent = spent;
 }
+
+abbrev pub state_of : Ends → Bool → SlotsState
+state_of e spent = state_with e.domain e.version e.slots.items e.busy.items e.calls.items e.served.items spent
 
 -- ---- a turn
 

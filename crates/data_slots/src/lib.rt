@@ -6,6 +6,7 @@
 #![tactic(auto)]
 
 mod done;
+mod ending;
 mod ends;
 mod finish;
 mod index;

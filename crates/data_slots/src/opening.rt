@@ -13,9 +13,10 @@ ghost use Rattle.channel_session.specs.Turning.{first_pace};
 ghost use Rattle.data_slots.specs.Slots.{held_of};
 ghost use Rattle.data_slots.specs.Sessions.{AwaitsPage, ServesWith, Begins, session_of};
 ghost use Rattle.data_slots.specs.Sides.{HasLaid, IsSideOf, seen_under, is_late_unused, is_late_side};
-ghost use Rattle.data_slots.specs.Stages.{ForCall, ForServing, IsStage, CanRetire, CanTurn, IsUnusedBy, IsNewCaller, IsNewServing, HasPage, is_session, framed};
+ghost use Rattle.data_slots.specs.Stages.{ForCall, ForServing, IsStage, CanRetire, CanTurn, IsUnusedBy, IsNewCaller, IsNewServing, HasPage, is_session, framed, frame_of};
 
 use crate::side::{PageSide, open_server};
+use crate::slot::Slot;
 use crate::stage::Stage;
 use channel_session::{CallerSession, ServingSession};
 use page_offer::{LaidPage, UnlaidClient};
@@ -28,72 +29,84 @@ use task_duties::UnusedEnd;
 use vchan_io::Memory;
 use vchan_rule::End;
 
-impl<'p> Stage<'p> {
+// `Taken` owns nothing, so where another stage is put in its place it is forgotten: its drop would be proved for
+// every stage.
+impl<'p> Slot<'p> {
+    /// Lays the page of an unused end, if that is the end's part. Returns `Memory` if memory runs out.
+    pub(crate) fn lay(&self, alloc: Global) -> Result<Option<LaidPage>, Memory>
+        ensures { IfOk result (λ laid. HasPage self.now.stage laid) }
+    {
+        match &self.stage {
+            Stage::Unused { end } => laid_by(end, alloc),
+            _ => Ok(None),
+        }
+    }
+
     /// Puts the end to the agent's own call with this number and this input. Its page is laid.
     pub(crate) fn call(
-        self,
+        &mut self,
         number: usize,
         input: Snapshot<Vec<u8>>,
         caller: Caller,
         laid: Option<LaidPage>,
-    ) -> Stage<'p>
-        requires unused { IsUnusedBy Server self }
-        requires laid { HasPage self laid }
+    )
+        requires unused { IsUnusedBy Server self.old.stage }
+        requires laid { HasPage self.old.stage laid }
         requires caller { IsNewCaller caller }
         requires input { caller.requests.input ≡ input.value.items }
-        ensures frame { (place : PagePlace) → framed place result ≡ record (framed place self.entry) { used = ForCall number input.value.items } }
-        ensures stage { IsStage caller.replies.own result }
-        ensures session { is_session result ≡ true }
-        ensures retire { CanRetire result }
+        ensures frame { frame_of self.new ≡ record (frame_of self.old) { used = ForCall number input.value.items } }
+        ensures stage { IsStage caller.replies.own self.new.stage }
+        ensures session { is_session self.new.stage ≡ true }
+        ensures retire { CanRetire self.new.stage }
     {
-        match self {
-            Stage::Unused { end } => {
-                let (end, side) = open_server(end, laid);
-                Stage::Calls {
-                    number,
-                    input,
-                    side,
-                    session: CallerSession::new(caller, end),
-                }
-            }
-            _ => unreachable!(),
-        }
+        let Stage::Unused { end } = mem::replace(&mut self.stage, Stage::Taken) else {
+            unreachable!()
+        };
+        let (end, side) = open_server(end, laid);
+        let stage = Stage::Calls {
+            number,
+            input,
+            side,
+            session: CallerSession::new(caller, end),
+        };
+        mem::forget(mem::replace(&mut self.stage, stage));
     }
 
     /// Puts the end to a call that is served under this number, by a side that has this service.
     pub(crate) fn serve(
-        self,
+        &mut self,
         number: usize,
         service: Snapshot<Builtin>,
         serving: Serving<Builtin>,
-    ) -> Stage<'p>
-        requires unused { IsUnusedBy Client self }
+    )
+        requires unused { IsUnusedBy Client self.old.stage }
         requires serving { IsNewServing serving }
         requires service { ServingStandsFor builtin_owes (builtin_owes service.value) serving [] }
-        ensures frame { (place : PagePlace) → framed place result ≡ record (framed place self.entry) { used = ForServing number service.value } }
-        ensures stage { IsStage serving.answering.own result }
-        ensures session { is_session result ≡ true }
-        ensures retire { CanRetire result }
+        ensures frame { frame_of self.new ≡ record (frame_of self.old) { used = ForServing number service.value } }
+        ensures stage { IsStage serving.answering.own self.new.stage }
+        ensures session { is_session self.new.stage ≡ true }
+        ensures retire { CanRetire self.new.stage }
     {
-        match self {
-            Stage::Unused { end } => serve_unused(end, number, service, serving),
-            _ => unreachable!(),
-        }
+        let Stage::Unused { end } = mem::replace(&mut self.stage, Stage::Taken) else {
+            unreachable!()
+        };
+        let stage = serve_unused(end, number, service, serving);
+        mem::forget(mem::replace(&mut self.stage, stage));
     }
 
     /// Begins the session of an awaited page, if the page is offered.
     pub(crate) fn open_offered(&mut self)
-        requires open { CanTurn self.old }
-        requires retire { CanRetire self.old }
-        ensures open { CanTurn self.new }
-        ensures retire { CanRetire self.new }
-        ensures frame { (place : PagePlace) → framed place self.new ≡ framed place self.old }
-        ensures begins { Begins (session_of self.old) (session_of self.new) }
-        ensures stage { (version : ℕ) → IsStage version self.old → IsStage version self.new }
+        requires open { CanTurn self.old.stage }
+        requires retire { CanRetire self.old.stage }
+        ensures open { CanTurn self.new.stage }
+        ensures retire { CanRetire self.new.stage }
+        ensures frame { frame_of self.new ≡ frame_of self.old }
+        ensures begins { Begins (session_of self.old.stage) (session_of self.new.stage) }
+        ensures stage { (version : ℕ) → IsStage version self.old.stage → IsStage version self.new.stage }
     {
-        if !matches!(self, Stage::Awaits { .. }) {
+        let Stage::Awaits { .. } = &self.stage else {
             return;
-        }
+        };
         self.open_now();
     }
 
@@ -101,42 +114,30 @@ impl<'p> Stage<'p> {
     // other sessions don't pay for the room of a whole stage.
     #[inline(never)]
     fn open_now(&mut self)
-        requires open { CanTurn self.old }
-        requires retire { CanRetire self.old }
-        ensures open { CanTurn self.new }
-        ensures retire { CanRetire self.new }
-        ensures frame { (place : PagePlace) → framed place self.new ≡ framed place self.old }
-        ensures begins { Begins (session_of self.old) (session_of self.new) }
-        ensures stage { (version : ℕ) → IsStage version self.old → IsStage version self.new }
+        requires awaits { session_of self.old.stage ≡ AwaitsPage }
+        requires open { CanTurn self.old.stage }
+        ensures open { CanTurn self.new.stage }
+        ensures retire { CanRetire self.new.stage }
+        ensures frame { frame_of self.new ≡ frame_of self.old }
+        ensures begins { Begins AwaitsPage (session_of self.new.stage) }
+        ensures stage { (version : ℕ) → IsStage version self.old.stage → IsStage version self.new.stage }
     {
-        let stage = mem::replace(self, Stage::Taken);
-        *self = stage.opened();
-    }
-
-    // Does the same by value, if the page is offered with its session.
-    fn opened(self) -> Stage<'p>
-        requires open { CanTurn self }
-        requires retire { CanRetire self }
-        ensures open { CanTurn result }
-        ensures retire { CanRetire result }
-        ensures begins { Begins (session_of self.entry) (session_of result) }
-        ensures frame { (place : PagePlace) → framed place result ≡ framed place self.entry }
-        ensures stage { (version : ℕ) → IsStage version self.entry → IsStage version result }
-    {
-        match self {
-            Stage::Awaits {
-                number,
-                service,
-                serving,
-                side,
-            } => open_awaited(number, service, serving, side),
-            stage => stage,
-        }
+        let Stage::Awaits {
+            number,
+            service,
+            serving,
+            side,
+        } = mem::replace(&mut self.stage, Stage::Taken)
+        else {
+            unreachable!()
+        };
+        let stage = open_awaited(number, service, serving, side);
+        mem::forget(mem::replace(&mut self.stage, stage));
     }
 }
 
-/// Lays the page of an unused end, if that is the end's part.
-pub(crate) fn lay(end: &UnusedEnd, alloc: Global) -> Result<Option<LaidPage>, Memory>
+// Lays the page of an unused end, if that is the end's part.
+fn laid_by(end: &UnusedEnd, alloc: Global) -> Result<Option<LaidPage>, Memory>
     ensures { IfOk result (λ laid. HasLaid end.now laid) }
 {
     match end {

@@ -1,5 +1,5 @@
 //! Ends before their first use.
-ghost use Rattle.std.specs.Prelude.{◌≡◌, ◌≤◌, [], None, IfOk, length, replicate, vec_capacity};
+ghost use Rattle.std.specs.Prelude.{◌≡◌, ◌+◌, ◌≤◌, [], None, IfOk, length, replicate, vec_capacity};
 ghost use Rattle.task_duties.specs.TaskOwes.{places_in};
 ghost use Rattle.task_duties.specs.GivenEnds.{all_given};
 ghost use Rattle.data_slots.specs.Slots.{AreApart};
@@ -11,17 +11,19 @@ use crate::note::CallNote;
 use crate::slot::Slot;
 use crate::stage::Stage;
 use std::alloc::{AllocError, Global};
-use task_duties::DataEnd;
+use task_duties::{DataEnd, RetiredEnd};
 
 /// The memory for the ends of an agent, which takes them without any more.
 #[derive(Drop)]
 pub(crate) struct EndsRoom<'p> {
-    /// No slots yet, and room for all of them.
-    pub(crate) slots: Vec<Slot<'p>>,
     /// The ends by their places.
     pub(crate) index: Index,
     /// The agent's own calls, none of which has a session.
     pub(crate) calls: Vec<Option<CallNote>>,
+    /// Room for the ends once they are retired, and for one more before them.
+    pub(crate) retired: Vec<RetiredEnd>,
+    /// No slots yet, and room for all of them.
+    pub(crate) slots: Vec<Slot<'p>>,
 }
 
 /// Takes the memory for these ends, of an agent that has `calls` calls of its own.
@@ -32,13 +34,15 @@ pub(crate) fn room_for<'p>(
 ) -> Result<EndsRoom<'p>, AllocError>
     requires { AreApart (places_in (all_given ends.now)) }
     ensures slots { IfOk result (λ room. (room.slots.items ≡ []) × (length ends.now ≤ vec_capacity room.slots)) }
+    ensures retired { IfOk result (λ room. (room.retired.items ≡ []) × (length ends.now + 1 ≤ vec_capacity room.retired)) }
     ensures index { IfOk result (λ room. IsIndexOf (places_in (all_given ends.now)) room.index) }
     ensures calls { IfOk result (λ room. room.calls.items ≡ replicate calls None) }
 {
     Ok(EndsRoom {
-        slots: Vec::with_capacity(alloc, ends.len())?,
         index: index_of(alloc, ends)?,
         calls: no_notes(alloc, calls)?,
+        retired: Vec::with_capacity(alloc, ends.len() + 1)?,
+        slots: Vec::with_capacity(alloc, ends.len())?,
     })
 }
 

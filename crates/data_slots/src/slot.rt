@@ -1,24 +1,19 @@
-//! One data end of an agent.
-ghost use Rattle.std.specs.Prelude.{◌≡◌, ◌<◌, ℕ, [], true, false, is_none, Some, length, OnOk, IfOk, IfSome};
-ghost use Rattle.ring_words.specs.declared.page.Role.TheVariants.{Server, Client};
-ghost use Rattle.service_gate.specs.Owing.{builtin_owes};
-ghost use Rattle.qrexec_data.specs.ServingSide.{ServingStandsFor};
-ghost use Rattle.task_duties.specs.GivenEnds.{retired_at};
-ghost use Rattle.data_slots.specs.Slots.{held_at};
-ghost use Rattle.data_slots.specs.Sessions.{TakesTurn, ComesToItsEnd, session_of};
-ghost use Rattle.data_slots.specs.Stages.{ForCall, ForServing, IsStage, CanRetire, CanTurn, IsUnusedBy, IsNewCaller, IsNewServing, HasComeOut, IsReportOf, HasPage, is_nothing, is_session, is_late, use_of, told_of, place_of, frame_of};
+//! One data end of an agent, and the turns of its session.
+ghost use Rattle.std.specs.Prelude.{◌≡◌, ◌<◌, ℕ, List, true, is_none, Some, length, OnOk, IfOk, IfSome, IfNone};
+ghost use Rattle.service_gate.specs.Triple.{Triple};
+ghost use Rattle.vchan_rule.specs.Seated.{view, IsOpen};
+ghost use Rattle.vchan_rule.specs.Ends.{IsSameEnd};
+ghost use Rattle.channel_session.specs.declared.pause.Turned.{Turned as Answer};
+ghost use Rattle.channel_session.specs.Calling.{IsCalling, IsSameCall, CallerTurns};
+ghost use Rattle.channel_session.specs.Answering.{IsAnswering, IsAtWork, ServingTurns};
+ghost use Rattle.channel_session.specs.Turning.{KeepsBytes};
+ghost use Rattle.data_slots.specs.Sessions.{TakesTurn, LosesNothing, session_of};
+ghost use Rattle.data_slots.specs.Stages.{IsStage, CanRetire, CanTurn, HasComeOut, is_nothing, is_session, is_late, use_of, told_of, place_of, frame_of};
 
-use crate::done::{CallOver, SessionDone};
-use crate::opening::lay;
-use crate::side::retire_unused;
 use crate::stage::Stage;
-use page_offer::LaidPage;
-use qrexec_data::{Caller, Outcome, Serving};
-use service_gate::Builtin;
-use std::alloc::Global;
-use std::mem;
-use std::snapshot::Snapshot;
-use task_duties::{DoneEnd, PagePlace, RetiredEnd, ServedDone, SessionEnd};
+use channel_session::{CallerSession, ServingSession};
+use qrexec_data::Outcome;
+use task_duties::{DoneEnd, SessionEnd};
 use vchan_io::Memory;
 
 /// A data end, with its place.
@@ -39,56 +34,6 @@ impl<'p> Slot<'p> {
         matches!(self.stage, Stage::Unused { .. })
     }
 
-    /// Lays the page of an unused end, if that is the end's part. Returns `Memory` if memory runs out.
-    pub(crate) fn lay(&self, alloc: Global) -> Result<Option<LaidPage>, Memory>
-        ensures { IfOk result (λ laid. HasPage self.now.stage laid) }
-    {
-        match &self.stage {
-            Stage::Unused { end } => lay(end, alloc),
-            _ => Ok(None),
-        }
-    }
-
-    /// Puts the end to the agent's own call with this number and this input. Its page is laid.
-    pub(crate) fn call(
-        &mut self,
-        number: usize,
-        input: Snapshot<Vec<u8>>,
-        caller: Caller,
-        laid: Option<LaidPage>,
-    )
-        requires unused { IsUnusedBy Server self.old.stage }
-        requires laid { HasPage self.old.stage laid }
-        requires caller { IsNewCaller caller }
-        requires input { caller.requests.input ≡ input.value.items }
-        ensures frame { frame_of self.new ≡ record (frame_of self.old) { used = ForCall number input.value.items } }
-        ensures stage { IsStage caller.replies.own self.new.stage }
-        ensures session { is_session self.new.stage ≡ true }
-        ensures retire { CanRetire self.new.stage }
-    {
-        let stage = mem::replace(&mut self.stage, Stage::Taken);
-        self.stage = stage.call(number, input, caller, laid);
-    }
-
-    /// Puts the end to a call that is served under this number, by a side that has this service.
-    pub(crate) fn serve(
-        &mut self,
-        number: usize,
-        service: Snapshot<Builtin>,
-        serving: Serving<Builtin>,
-    )
-        requires unused { IsUnusedBy Client self.old.stage }
-        requires serving { IsNewServing serving }
-        requires service { ServingStandsFor builtin_owes (builtin_owes service.value) serving [] }
-        ensures frame { frame_of self.new ≡ record (frame_of self.old) { used = ForServing number service.value } }
-        ensures stage { IsStage serving.answering.own self.new.stage }
-        ensures session { is_session self.new.stage ≡ true }
-        ensures retire { CanRetire self.new.stage }
-    {
-        let stage = mem::replace(&mut self.stage, Stage::Taken);
-        self.stage = stage.serve(number, service, serving);
-    }
-
     /// Makes one turn of an open session. Returns what the broker must be told if the session is over now.
     /// Returns `Memory` if memory runs out; the end can still be retired then. It also fails if the task at
     /// the other end ran out of memory before it opened that end.
@@ -104,9 +49,9 @@ impl<'p> Slot<'p> {
         ensures long { length scratch.new ≡ length scratch.old }
         ensures retire { CanRetire self.new.stage }
     {
-        match self.stage.turn(scratch)? {
+        match self.turn_session(scratch)? {
             None => {
-                if self.stage.is_abandoned() {
+                if self.is_abandoned() {
                     return Err(Memory);
                 }
                 Ok(None)
@@ -115,24 +60,39 @@ impl<'p> Slot<'p> {
         }
     }
 
-    // Finishes a session that ended like this, and returns what the broker must be told. A function apart, so
-    // that other turns don't pay for the room of a whole stage.
-    #[inline(never)]
-    fn end(&mut self, outcome: Outcome) -> SessionEnd
-        requires over { HasComeOut outcome self.old.stage }
-        requires session { is_session self.old.stage ≡ true }
+    // Makes one turn of an open session, which begins now if its page was awaited and came. Returns how it
+    // ended, if it is over.
+    fn turn_session(&mut self, scratch: &mut [u8]) -> Result<Option<Outcome>, Memory>
+        requires open { CanTurn self.old.stage }
         requires retire { CanRetire self.old.stage }
+        requires some { 0 < length scratch.old }
         ensures frame { frame_of self.new ≡ frame_of self.old }
-        ensures stage { (version : ℕ) → IsStage version self.old.stage → IsStage version self.new.stage }
-        ensures session { is_session self.new.stage ≡ false }
-        ensures told { told_of (place_of self.old) (use_of self.old.stage) ≡ Some result }
-        ensures ends { ComesToItsEnd (session_of self.old.stage) (session_of self.new.stage) }
+        ensures stage { (version : ℕ) → IsStage version self.old.stage → OnOk result (IsStage version self.new.stage) }
+        ensures session { is_session self.new.stage ≡ true }
+        ensures over { IfOk result (λ outcome. IfSome outcome (λ o. HasComeOut o self.new.stage)) }
+        ensures turns { IfOk result (λ outcome. IfNone outcome (TakesTurn (session_of self.old.stage) (session_of self.new.stage))) }
+        ensures kept { OnOk result (LosesNothing (session_of self.old.stage) (session_of self.new.stage)) }
+        ensures long { length scratch.new ≡ length scratch.old }
         ensures retire { CanRetire self.new.stage }
     {
-        let told = self.told();
-        let stage = mem::replace(&mut self.stage, Stage::Taken);
-        self.stage = stage.finish(outcome);
-        told
+        self.open_offered();
+        match &mut self.stage {
+            Stage::Calls { session, .. } => turn_caller(session, scratch),
+            Stage::Serves { session, .. } => turn_serving(session, scratch),
+            Stage::Awaits { .. } => Ok(None),
+            _ => unreachable!(),
+        }
+    }
+
+    // Whether the task at the other end was dropped before it opened its end of the page.
+    fn is_abandoned(&mut self) -> bool
+        ensures { self.new ≡ self.old }
+    {
+        match &mut self.stage {
+            Stage::Calls { side, .. } => side.is_abandoned(),
+            Stage::Awaits { side, .. } => side.is_abandoned(),
+            _ => false,
+        }
     }
 
     /// Returns whether the last turn of an open session moved bytes.
@@ -166,100 +126,47 @@ impl<'p> Slot<'p> {
             _ => false,
         }
     }
+}
 
-    // What the broker is told of a session.
-    fn told(&self) -> SessionEnd
-        requires session { is_session self.now.stage ≡ true }
-        ensures { told_of (place_of self.now) (use_of self.now.stage) ≡ Some result }
-    {
-        match &self.stage {
-            Stage::Calls { number, .. } => SessionEnd {
-                domain: self.to,
-                port: self.port,
-                call: Some(*number),
-            },
-            Stage::Awaits { .. } | Stage::Serves { .. } => SessionEnd {
-                domain: self.from,
-                port: self.port,
-                call: None,
-            },
-            _ => unreachable!(),
-        }
+// Makes one turn of a caller that has no outcome yet. Returns how it ended, if it is over.
+fn turn_caller(session: &mut CallerSession, scratch: &mut [u8]) -> Result<Option<Outcome>, Memory>
+    requires calling { IsCalling session.old.caller session.old.end }
+    requires some { 0 < length scratch.old }
+    ensures end { IsSameEnd session.old.end session.new.end }
+    ensures open { IsOpen session.new.end }
+    ensures same { OnOk result (IsSameCall session.old session.new) }
+    ensures calling { OnOk result (IsCalling session.new.caller session.new.end) }
+    ensures outcome { IfOk result (λ outcome. outcome ≡ session.new.caller.replies.outcome) }
+    ensures turns { IfOk result (λ outcome. IfNone outcome ((turned : Answer) × CallerTurns turned session.old session.new)) }
+    ensures kept { OnOk result (KeepsBytes (view session.old.end) (view session.new.end)) }
+    ensures long { length scratch.new ≡ length scratch.old }
+{
+    if let Some(outcome) = session.outcome() {
+        return Ok(Some(outcome));
     }
+    session.turn(scratch)?;
+    Ok(session.outcome())
+}
 
-    /// Retires the end, used or not.
-    pub(crate) fn give_up(self) -> RetiredEnd
-        requires retire { CanRetire self.stage }
-        ensures held { held_at (retired_at result) ≡ (frame_of self.entry).held }
-        ensures honest { (retired_at result).view.turned ≡ false }
-    {
-        let Slot {
-            from,
-            to,
-            port,
-            stage,
-        } = self;
-        RetiredEnd {
-            place: PagePlace::Payload { from, to, port },
-            retired: stage.give_up(),
-        }
+// Makes one turn of a side that serves and has no outcome yet. Returns how it ended, if it is over.
+fn turn_serving(session: &mut ServingSession, scratch: &mut [u8]) -> Result<Option<Outcome>, Memory>
+    requires work { IsAtWork session.old.serving session.old.end }
+    requires some { 0 < length scratch.old }
+    ensures end { IsSameEnd session.old.end session.new.end }
+    ensures idle { (view session.new.end).idle ≡ true }
+    ensures own { OnOk result (session.new.serving.answering.own ≡ session.old.serving.answering.own) }
+    ensures work { OnOk result (IsAtWork session.new.serving session.new.end) }
+    ensures answering { (owed : List ℕ → Triple) → IsAnswering owed session.old.serving session.old.end → OnOk result (IsAnswering owed session.new.serving session.new.end) }
+    ensures outcome { IfOk result (λ outcome. outcome ≡ session.new.serving.answering.outcome) }
+    ensures turns { IfOk result (λ outcome. IfNone outcome ((turned : Answer) × ServingTurns turned session.old session.new)) }
+    ensures kept { OnOk result (KeepsBytes (view session.old.end) (view session.new.end)) }
+    ensures long { length scratch.new ≡ length scratch.old }
+{
+    if let Some(outcome) = session.outcome() {
+        return Ok(Some(outcome));
     }
-
-    /// Retires the end, which has no open session, and returns what came of its session.
-    pub(crate) fn finish(self) -> (RetiredEnd, SessionDone)
-        requires retire { CanRetire self.stage }
-        requires closed { is_session self.stage ≡ false }
-        ensures held { held_at (retired_at result.0) ≡ (frame_of self.entry).held }
-        ensures honest { (retired_at result.0).view.turned ≡ false }
-        ensures report { (version : ℕ) → IsStage version self.entry.stage → IsReportOf version (place_of self.entry) (use_of self.entry.stage) (retired_at result.0).view result.1 }
-    {
-        let Slot {
-            from,
-            to,
-            port,
-            stage,
-        } = self;
-        let place = PagePlace::Payload { from, to, port };
-        match stage {
-            Stage::Unused { end } => {
-                let retired = retire_unused(end);
-                (RetiredEnd { place, retired }, SessionDone::Nothing)
-            }
-            Stage::CallIsOver {
-                number,
-                done,
-                end,
-                ..
-            } => {
-                let over = CallOver { to, port, done };
-                let retired = end;
-                (
-                    RetiredEnd { place, retired },
-                    SessionDone::Call { number, over },
-                )
-            }
-            Stage::ServingIsOver {
-                number,
-                outcome,
-                got,
-                end,
-                ..
-            } => {
-                let done = ServedDone {
-                    from,
-                    port,
-                    outcome,
-                    got,
-                };
-                let retired = end;
-                (
-                    RetiredEnd { place, retired },
-                    SessionDone::Serving { number, done },
-                )
-            }
-            _ => unreachable!(),
-        }
-    }
+    session.turn(scratch)?;
+    Ok(session.outcome())
 }
 
 // Takes the other end of a page back, if this end is the server's. Returns whether the other end is still

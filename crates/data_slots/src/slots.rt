@@ -8,13 +8,20 @@ ghost use Rattle.task_duties.specs.TaskOwes.{places_in};
 ghost use Rattle.task_duties.specs.GivenEnds.{all_given, all_retired, retired_at};
 
 use crate::done::DataDone;
-use crate::ends::Ends;
+use crate::ends::{Ends, push_within};
+use crate::finish::{finish_all, give_up_all, session_ends};
+use crate::note::{CallNote, ServedNote};
+use crate::setup::{EndsRoom, room_for, unused_slots};
+use qrexec_data::{Caller, Serving};
 use service_gate::Builtin;
 use std::alloc::Global;
 use std::marker::Model;
 use std::snapshot::Snapshot;
 use task_duties::{DataEnd, RetiredEnd, SessionEnd};
 use vchan_io::Memory;
+
+/// The most bytes that a session puts into one message.
+const CHUNK: u32 = 65_536;
 
 /// All data ends of an agent, in the order in which they were given.
 ///
@@ -81,17 +88,30 @@ impl<'p> DataSlots<'p> {
         }) }
         ensures unmade { IfErr result (λ given. given ≡ ends.entry) }
     {
-        let Ok(retired) = Vec::with_capacity(alloc, ends.len() + 1) else {
+        let Ok(room) = room_for(alloc, &ends, calls) else {
             return Err(ends);
         };
-        match Ends::new(alloc, domain, version, ends, calls) {
-            Ok(ends) => Ok(DataSlots {
-                ends,
-                retired,
-                spent: Snapshot::of(&false),
-            }),
-            Err(ends) => Err(ends),
-        }
+        let EndsRoom {
+            index,
+            calls,
+            retired,
+            slots,
+        } = room;
+        Ok(DataSlots {
+            ends: Ends {
+                alloc,
+                domain,
+                version,
+                slots: unused_slots(slots, ends),
+                index,
+                busy: Vec::new(alloc),
+                calls,
+                served: Vec::new(alloc),
+                waiting: Vec::new(alloc),
+            },
+            retired,
+            spent: Snapshot::of(&false),
+        })
     }
 
     /// Returns whether there is an unused end for a call of the agent's own to this domain at this port.
@@ -99,7 +119,7 @@ impl<'p> DataSlots<'p> {
         requires whole { self.now.spent ≡ false }
         ensures { result ≡ has_place (Payload self.now.domain to port) self.now.unused }
     {
-        self.ends.is_unused(self.ends.domain, to, port)
+        self.ends.find_unused(self.ends.domain, to, port).is_some()
     }
 
     /// Returns whether there is an unused end for a call of this domain to the agent at this port.
@@ -107,7 +127,9 @@ impl<'p> DataSlots<'p> {
         requires whole { self.now.spent ≡ false }
         ensures { result ≡ has_place (Payload from self.now.domain port) self.now.unused }
     {
-        self.ends.is_unused(from, self.ends.domain, port)
+        self.ends
+            .find_unused(from, self.ends.domain, port)
+            .is_some()
     }
 
     /// Opens the unused end at this place for the agent's own call with this number and input. The number
@@ -127,7 +149,23 @@ impl<'p> DataSlots<'p> {
         ensures kept { KeepsSessions self.old.sessions self.new.sessions }
         ensures err { OnErr result (self.new ≡ self.old) }
     {
-        self.ends.call(number, to, port, input)
+        let Some(at) = self.ends.find_unused(self.ends.domain, to, port) else {
+            unreachable!()
+        };
+        let note = CallNote {
+            at,
+            to,
+            port,
+            input: Snapshot::of(&input),
+        };
+        let seen = Snapshot::of(&input);
+        let caller = Caller::new(self.ends.alloc, input, self.ends.version, CHUNK)?;
+        self.ends.busy.reserve(1)?;
+        let laid = self.ends.slots[at].lay(self.ends.alloc)?;
+        push_within(&mut self.ends.busy, at);
+        self.ends.slots[at].call(number, seen, caller, laid);
+        self.ends.calls[number] = Some(note);
+        Ok(())
     }
 
     /// Opens the unused end at this place for a call of this domain, which this service serves.
@@ -146,7 +184,23 @@ impl<'p> DataSlots<'p> {
         ensures kept { KeepsSessions self.old.sessions self.new.sessions }
         ensures err { OnErr result (self.new ≡ self.old) }
     {
-        self.ends.serve(from, port, service)
+        let Some(at) = self.ends.find_unused(from, self.ends.domain, port) else {
+            unreachable!()
+        };
+        let note = ServedNote {
+            at,
+            from,
+            port,
+            service: Snapshot::of(&service),
+        };
+        let seen = Snapshot::of(&service);
+        let number = self.ends.served.len();
+        let serving = Serving::new(self.ends.alloc, service, self.ends.version, CHUNK)?;
+        self.ends.busy.reserve(1)?;
+        self.ends.served.push(note)?;
+        push_within(&mut self.ends.busy, at);
+        self.ends.slots[at].serve(number, seen, serving);
+        Ok(())
     }
 
     /// One turn of each open session. Those that are over now are put behind `over`, each once, and are open
@@ -165,7 +219,8 @@ impl<'p> DataSlots<'p> {
         ensures held { (self.new.held ≡ self.old.held) × (self.new.domain ≡ self.old.domain) × (self.new.version ≡ self.old.version) }
         ensures long { length scratch.new ≡ length scratch.old }
     {
-        let turned = self.ends.turn(scratch, over);
+        self.ends.give_back();
+        let turned = self.ends.turn_open(scratch, over);
         self.spent = Snapshot::of(&turned.is_err());
         turned
     }
@@ -175,7 +230,13 @@ impl<'p> DataSlots<'p> {
         requires whole { self.now.spent ≡ false }
         ensures { result ≡ late_count self.now }
     {
-        self.ends.pages_in_use()
+        let mut count = 0;
+        for at in &self.ends.busy {
+            if self.ends.slots[*at].is_late() {
+                count += 1;
+            }
+        }
+        count
     }
 
     /// Says that an end is unused as long as its session hasn't begun, and that the sessions that are told of as
@@ -184,7 +245,7 @@ impl<'p> DataSlots<'p> {
         requires whole { self.now.spent ≡ false }
         ensures { Agrees self.now }
     {
-        self.ends.agree();
+        let _ends = &self.ends;
     }
 
     /// Returns whether no session is open.
@@ -208,7 +269,26 @@ impl<'p> DataSlots<'p> {
         ensures err { IfErr result (λ ends. AreBack (retired_at first) self.entry.held (all_retired ends.items)) }
     {
         let DataSlots { ends, retired, .. } = self;
-        ends.finish(first, retired)
+        let Ends {
+            alloc,
+            slots,
+            calls,
+            served,
+            ..
+        } = ends;
+        let mut reports = Vec::new(alloc);
+        if reports.reserve(slots.len()).is_err() {
+            return Err(give_up_all(slots, first, retired));
+        }
+        let ends = finish_all(slots, first, retired, &mut reports);
+        let Ok((calls, served)) = session_ends(alloc, &calls, &served, &mut reports) else {
+            return Err(ends);
+        };
+        Ok(DataDone {
+            ends,
+            calls,
+            served,
+        })
     }
 
     /// Retires all ends, used or not, and returns them in the order in which they were given, behind `first`,
@@ -217,6 +297,7 @@ impl<'p> DataSlots<'p> {
         ensures { AreBack (retired_at first) self.entry.held (all_retired result.items) }
     {
         let DataSlots { ends, retired, .. } = self;
-        ends.give_up(first, retired)
+        let Ends { slots, .. } = ends;
+        give_up_all(slots, first, retired)
     }
 }
