@@ -73,6 +73,13 @@ awaits_page (CallIsOver number input done end) h go = cc
 awaits_page (ServingIsOver number service outcome got end) h go = cc
 awaits_page Taken h go = cc
 
+-- an end that is put to use is used for something
+pub call_used : (number : ℕ) (input : List ℕ) → ForCall number input ≡ ForNothing → ⊥
+call_used number input e = cc
+
+pub serving_used : (number : ℕ) (service : Builtin) → ForServing number service ≡ ForNothing → ⊥
+serving_used number service e = cc
+
 server_role : (domain f t p : ℕ) (role : Role) → f ≡ domain → IsEndOf domain (Payload f t p) role → role ≡ Server
 server_role domain f t p Server same h = refl
 server_role domain f t p Client same h = absurd (h.1 same)
@@ -83,33 +90,21 @@ client_role domain f t p Client same h = refl
 
 unused_by : (version : ℕ) (role : Role) (stage : Stage) → IsStage version stage → use_of stage ≡ ForNothing → (end_of stage).role ≡ role → IsUnusedBy role stage
 unused_by version role (Unused end) h unused is = (h, is)
-unused_by version role (Calls number input side session) h unused is = absurd (bad number input.value.items unused)
-  where
-    bad : (n : ℕ) (bytes : List ℕ) → ForCall n bytes ≡ ForNothing → ⊥
-    bad n bytes e = cc
-unused_by version role (Awaits number service serving side) h unused is = absurd (bad number service.value unused)
-  where
-    bad : (n : ℕ) (b : Builtin) → ForServing n b ≡ ForNothing → ⊥
-    bad n b e = cc
-unused_by version role (Serves number service side session) h unused is = absurd (bad number service.value unused)
-  where
-    bad : (n : ℕ) (b : Builtin) → ForServing n b ≡ ForNothing → ⊥
-    bad n b e = cc
-unused_by version role (CallIsOver number input done end) h unused is = absurd (bad number input.value.items unused)
-  where
-    bad : (n : ℕ) (bytes : List ℕ) → ForCall n bytes ≡ ForNothing → ⊥
-    bad n bytes e = cc
-unused_by version role (ServingIsOver number service outcome got end) h unused is = absurd (bad number service.value unused)
-  where
-    bad : (n : ℕ) (b : Builtin) → ForServing n b ≡ ForNothing → ⊥
-    bad n b e = cc
+unused_by version role (Calls number input side session) h unused is = absurd (call_used number input.value.items unused)
+unused_by version role (Awaits number service serving side) h unused is = absurd (serving_used number service.value unused)
+unused_by version role (Serves number service side session) h unused is = absurd (serving_used number service.value unused)
+unused_by version role (CallIsOver number input done end) h unused is = absurd (call_used number input.value.items unused)
+unused_by version role (ServingIsOver number service outcome got end) h unused is = absurd (serving_used number service.value unused)
 unused_by version role Taken h unused is = absurd h
 
-from_is : (a b c f t p : ℕ) → Payload a b c ≡ Payload f t p → a ≡ f
+pub from_is : (a b c f t p : ℕ) → Payload a b c ≡ Payload f t p → a ≡ f
 from_is a b c f t p e = cc
 
-to_is : (a b c f t p : ℕ) → Payload a b c ≡ Payload f t p → b ≡ t
+pub to_is : (a b c f t p : ℕ) → Payload a b c ≡ Payload f t p → b ≡ t
 to_is a b c f t p e = cc
+
+pub port_is : (a b c f t p : ℕ) → Payload a b c ≡ Payload f t p → c ≡ p
+port_is a b c f t p e = cc
 
 -- it is a server's if the agent calls, and a client's if it is called
 pub free_server : (domain version to port : ℕ) (slots : List Slot) (at : ℕ) (slot : Slot) → Each (λ s. IsStage version s.stage) slots → Each (λ h. IsEndOf domain h.place h.role) (held_in slots)
@@ -133,9 +128,3 @@ pub same_state : (domain version : ℕ) (held held' : List Held) (unused unused'
     (record { domain = domain; version = version; held = held'; unused = unused'; late = late'; called = called'; served = served'; opened = opened'; sessions = are'; spent = spent })
 same_state domain version held held' unused unused' late late' called called' served served' opened opened' are are' spent a b l c d o r =
     λ i. record { domain = domain; version = version; held = a i; unused = b i; late = l i; called = c i; served = d i; opened = o i; sessions = r i; spent = spent }
-
-pub call_used : (number : ℕ) (input : List ℕ) → ForCall number input ≡ ForNothing → ⊥
-call_used number input e = cc
-
-pub serving_used : (number : ℕ) (service : Builtin) → ForServing number service ≡ ForNothing → ⊥
-serving_used number service e = cc

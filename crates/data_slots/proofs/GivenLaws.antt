@@ -1,5 +1,5 @@
 -- Ends that were just given are whole.
-use Rattle.std.proofs.Common.{◌≡◌, ℕ, zero, suc, List, [], ◌∷◌, length, map, replicate, refl, ap, sym, ◌∙◌, subst, Option, Some, None}
+use Rattle.std.proofs.Common.{◌≡◌, ℕ, zero, suc, List, [], ◌∷◌, length, map, replicate, refl, ap, sym, subst, Option, Some, None}
 use Rattle.std.specs.Prelude.{false, Bool, ◌≤◌, slice_get, unwrap_or, option_map, if◌then◌else◌}
 use Rattle.std.specs.List.{cons_option, AllByRecursion as Each}
 use Rattle.task_duties.specs.declared.place.PagePlace.TheVariants.{Payload}
@@ -104,9 +104,4 @@ pub given_state : (domain version : ℕ) (ends : List DataEnd) (slots : List Slo
       spent = false;
     }
 given_state domain version ends slots busy calls count served spent s b k v f =
-    ap (λ x. state_with domain version x busy calls served spent) s
-    ∙ (ap (λ x. state_with domain version (unused_slots ends) x calls served spent) b
-    ∙ (ap (λ x. state_with domain version (unused_slots ends) [] x served spent) k
-    ∙ (ap (λ x. state_with domain version (unused_slots ends) [] (replicate count None) x spent) v
-    ∙ (ap (state_with domain version (unused_slots ends) [] (replicate count None) []) f
-    ∙ same_state domain version _ _ _ _ _ _ _ _ _ _ _ _ _ _ false (given_held ends) (given_unused ends) (given_late ends) (called_none count) refl refl (given_sessions ends)))))
+    rw (s, b, k, v, f) (same_state domain version _ _ _ _ _ _ _ _ _ _ _ _ _ _ false (given_held ends) (given_unused ends) (given_late ends) (called_none count) refl refl (given_sessions ends))

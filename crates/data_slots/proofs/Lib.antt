@@ -4,12 +4,11 @@ mod OpenLaws
 mod SideLaws
 mod WholeLaws
 mod OpenedLaws
-mod BegunLaws
 mod SessionLaws
 mod GivenLaws
 mod BeginLaws
 mod TurnLaws
-mod TurnedLaws
+mod StateLaws
 mod AgreeLaws
 mod FinishLaws
 pub mod AgentLaws

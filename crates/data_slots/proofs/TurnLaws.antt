@@ -25,7 +25,7 @@ use Rattle.data_slots.specs.Index.{PlaceIndex, IsIndexOf}
 use Rattle.data_slots.specs.Whole.{frames, held_in, sessions, called_of, serves_of, AreOpen, HaveEnds, IsNoted, AreWhole, IsWhole, state_of, IsTurned, HasSameEnds}
 use Rattle.data_slots.proofs.OpenLaws.{open_at, open_less}
 use Rattle.data_slots.proofs.WholeLaws.{held_set, places_set}
-use Rattle.data_slots.proofs.BeginLaws.{state_is}
+use Rattle.data_slots.proofs.BeginLaws.{state_is, from_is, to_is, port_is}
 
 -- a slot whose session is open, by its place among the open ones
 pub record IsBusy (slots : List Slot) (at : ℕ) (slot : Slot) : Type 0 where
@@ -43,21 +43,12 @@ busy_slot slots busy next at slot h less read item =
     record { here = back.1 ∙ ap Some (sym same); session = ap (λ s. is_session s.stage) same ∙ back.2 }
 
 pub can_turn : (version : ℕ) (stage : Stage) → IsStage version stage → is_session stage ≡ true → CanTurn stage
-can_turn version (Unused end) h is = bad is
-  where
-    bad : false ≡ true → CanTurn (Unused end)
-    bad e = cc
+can_turn version (Unused end) h is = absurd (false≢true is)
 can_turn version (Calls number input side session) h is = h.0
 can_turn version (Awaits number service serving side) h is = h.0
 can_turn version (Serves number service side session) h is = h.0
-can_turn version (CallIsOver number input done end) h is = bad is
-  where
-    bad : false ≡ true → CanTurn (CallIsOver number input done end)
-    bad e = cc
-can_turn version (ServingIsOver number service outcome got end) h is = bad is
-  where
-    bad : false ≡ true → CanTurn (ServingIsOver number service outcome got end)
-    bad e = cc
+can_turn version (CallIsOver number input done end) h is = absurd (false≢true is)
+can_turn version (ServingIsOver number service outcome got end) h is = absurd (false≢true is)
 can_turn version Taken h is = absurd h
 
 -- a slot that still has its use
@@ -98,34 +89,19 @@ turns_over domain version slots index busy next calls served at slot slot' whole
 begun : (e : Ends) (place : PagePlace) (used : Use) (told : SessionEnd) → IsNoted e.domain e.calls.items e.served.items place used → told_of place used ≡ Some told → IsToldOver (state_of e false) told
 begun e (Payload from to port) (ForCall number input) told noted tells =
     let n = noted.0 in
-    let to_is : to ≡ n.to = ends_to from to port e.domain n.to n.port noted.2 in
-    let port_is : port ≡ n.port = ends_port from to port e.domain n.to n.port noted.2 in
+    let there : to ≡ n.to = to_is from to port e.domain n.to n.port noted.2 in
+    let at : port ≡ n.port = port_is from to port e.domain n.to n.port noted.2 in
     let it : SessionEnd = record { domain = to; port = port; call = Some number } in
     let same : it ≡ told = cc in
-    subst (λ t. IsToldOver (state_of e false) t) same (called_of n, called_at e number n noted.1, sym to_is, sym port_is)
-  where
-    ends_to : (a b c f t p : ℕ) → Payload a b c ≡ Payload f t p → b ≡ t
-    ends_to a b c f t p e = cc
-
-    ends_port : (a b c f t p : ℕ) → Payload a b c ≡ Payload f t p → c ≡ p
-    ends_port a b c f t p e = cc
-
-    called_at : (e : Ends) (number : ℕ) (n : CallNote) → slice_get e.calls.items number ≡ Some (Some n) → slice_get (state_of e false).called number ≡ Some (Some (called_of n))
-    called_at e number n h = get_map (λ (o : Option CallNote). option_map called_of o) e.calls.items number (Some n) h
+    subst (λ t. IsToldOver (state_of e false) t) same (called_of n, get_map (option_map called_of) e.calls.items number (Some n) noted.1, sym there, sym at)
 begun e (Payload from to port) (ForServing number service) told noted tells =
     let n = noted.0 in
-    let from_is : n.from ≡ from = sym (ends_from from to port n.from e.domain n.port noted.2) in
-    let port_is : n.port ≡ port = sym (ends_port from to port n.from e.domain n.port noted.2) in
+    let here : n.from ≡ from = sym (from_is from to port n.from e.domain n.port noted.2) in
+    let at : n.port ≡ port = sym (port_is from to port n.from e.domain n.port noted.2) in
     let it : SessionEnd = record { domain = from; port = port; call = None } in
     let same : it ≡ told = cc in
     subst (λ t. IsToldOver (state_of e false) t) same
-    (some_get (λ x. (x.from ≡ from) × (x.port ≡ port)) (map serves_of e.served.items) number (serves_of n) (get_map serves_of e.served.items number n noted.1) (from_is, port_is))
-  where
-    ends_from : (a b c f t p : ℕ) → Payload a b c ≡ Payload f t p → a ≡ f
-    ends_from a b c f t p e = cc
-
-    ends_port : (a b c f t p : ℕ) → Payload a b c ≡ Payload f t p → c ≡ p
-    ends_port a b c f t p e = cc
+    (some_get (λ x. (x.from ≡ from) × (x.port ≡ port)) (map serves_of e.served.items) number (serves_of n) (get_map serves_of e.served.items number n noted.1) (here, at))
 begun e place ForNothing told noted tells = absurd (never place tells)
   where
     never : (p : PagePlace) → told_of p ForNothing ≡ Some told → ⊥

@@ -8,7 +8,6 @@ use Rattle.list_laws.proofs.Each.{each_set, each_weaker}
 use Rattle.list_laws.proofs.Tests.{same_number}
 use Rattle.task_duties.specs.declared.place.PagePlace.{PagePlace}
 use Rattle.task_duties.specs.declared.place.PagePlace.TheVariants.{Payload}
-use Rattle.service_gate.specs.declared.builtin.Builtin.{Builtin}
 use Rattle.task_duties.specs.Places.{is_place, without}
 use Rattle.task_duties.proofs.ServedLaw.{same_place}
 use Rattle.task_duties.proofs.Places.{same_self}
@@ -22,6 +21,7 @@ use Rattle.data_slots.specs.Stages.{Use, ForNothing, ForCall, ForServing, Frame,
 use Rattle.data_slots.specs.Index.{PlaceIndex, IsIndexOf}
 use Rattle.data_slots.specs.Whole.{frames, held_in, places, sessions, unused_in, AreOpen, IsUsedAt, HaveEnds, IsNoted, AreWhole}
 use Rattle.data_slots.proofs.OpenLaws.{open_more, other_number}
+use Rattle.data_slots.proofs.BeginLaws.{call_used, serving_used}
 
 -- an end that is used stays as it is when an unused one is put to use
 used_stays : (fs : List Frame) (i at : ℕ) (f f' : Frame) (place : PagePlace) (used : Use) → slice_get fs i ≡ Some f → f.used ≡ ForNothing → (used ≡ ForNothing → ⊥) → IsUsedAt fs at place used
@@ -68,9 +68,6 @@ call_ends domain number note fs f calls served here unused lies free h = record 
     called : (m : ℕ) (n : CallNote) → slice_get (set calls number (Some note)) m ≡ Some (Some n) → IsUsedAt (set fs note.at f') n.at (Payload domain n.to n.port) (ForCall m n.input.value.items)
     called m n is = by_number (number == m) refl
       where
-        bad : ForCall m n.input.value.items ≡ ForNothing → ⊥
-        bad e = cc
-
         by_number : (b : Bool) → (number == m) ≡ b → IsUsedAt (set fs note.at f') n.at (Payload domain n.to n.port) (ForCall m n.input.value.items)
         by_number true same =
             let e : m ≡ number = sym (same_number number m same) in
@@ -82,13 +79,10 @@ call_ends domain number note fs f calls served here unused lies free h = record 
         by_number false same =
             let apart : m ≢ number = other_number number m same in
             let before : slice_get calls m ≡ Some (Some n) = sym (get_set_other calls number m (Some note) apart) ∙ is in
-            used_stays fs note.at n.at f f' (Payload domain n.to n.port) (ForCall m n.input.value.items) here unused (λ e. bad e) (h.called m n before)
+            used_stays fs note.at n.at f f' (Payload domain n.to n.port) (ForCall m n.input.value.items) here unused (call_used m n.input.value.items) (h.called m n before)
 
     serving : (m : ℕ) (n : ServedNote) → slice_get served m ≡ Some n → IsUsedAt (set fs note.at f') n.at (Payload n.from domain n.port) (ForServing m n.service.value)
-    serving m n is = used_stays fs note.at n.at f f' (Payload n.from domain n.port) (ForServing m n.service.value) here unused (λ e. bad e) (h.serving m n is)
-      where
-        bad : ForServing m n.service.value ≡ ForNothing → ⊥
-        bad e = cc
+    serving m n is = used_stays fs note.at n.at f f' (Payload n.from domain n.port) (ForServing m n.service.value) here unused (serving_used m n.service.value) (h.serving m n is)
 
 -- the end that serves from now on
 serving_ends : (domain : ℕ) (note : ServedNote) (fs : List Frame) (f : Frame) (calls : List (Option CallNote)) (served : List ServedNote) → slice_get fs note.at ≡ Some f → f.used ≡ ForNothing
@@ -100,19 +94,13 @@ serving_ends domain note fs f calls served here unused lies h = record { called 
     f' = record f { used = ForServing (length served) note.service.value }
 
     called : (m : ℕ) (n : CallNote) → slice_get calls m ≡ Some (Some n) → IsUsedAt (set fs note.at f') n.at (Payload domain n.to n.port) (ForCall m n.input.value.items)
-    called m n is = used_stays fs note.at n.at f f' (Payload domain n.to n.port) (ForCall m n.input.value.items) here unused (λ e. bad e) (h.called m n is)
-      where
-        bad : ForCall m n.input.value.items ≡ ForNothing → ⊥
-        bad e = cc
+    called m n is = used_stays fs note.at n.at f f' (Payload domain n.to n.port) (ForCall m n.input.value.items) here unused (call_used m n.input.value.items) (h.called m n is)
 
     serving : (m : ℕ) (n : ServedNote) → slice_get (served ++ note ∷ []) m ≡ Some n → IsUsedAt (set fs note.at f') n.at (Payload n.from domain n.port) (ForServing m n.service.value)
     serving m n is = by_place (get_push served note m n is)
       where
-        bad : ForServing m n.service.value ≡ ForNothing → ⊥
-        bad e = cc
-
         by_place : (slice_get served m ≡ Some n) ⊎ ((m ≡ length served) × (note ≡ n)) → IsUsedAt (set fs note.at f') n.at (Payload n.from domain n.port) (ForServing m n.service.value)
-        by_place (inl before) = used_stays fs note.at n.at f f' (Payload n.from domain n.port) (ForServing m n.service.value) here unused (λ e. bad e) (h.serving m n before)
+        by_place (inl before) = used_stays fs note.at n.at f f' (Payload n.from domain n.port) (ForServing m n.service.value) here unused (serving_used m n.service.value) (h.serving m n before)
         by_place (inr (e, k)) =
             let P : ServedNote → Type 0 = λ x. IsUsedAt (set fs note.at f') x.at (Payload x.from domain x.port) (ForServing m x.service.value) in
             let Q : ℕ → Type 0 = λ x. IsUsedAt (set fs note.at f') note.at (Payload note.from domain note.port) (ForServing x note.service.value) in
@@ -134,18 +122,9 @@ pub record IsPutTo (version : ℕ) (slot slot' : Slot) (used : Use) : Type 0 whe
 
 pub is_shut : (stage : Stage) → use_of stage ≡ ForNothing → is_session stage ≡ false
 is_shut (Unused end) h = refl
-is_shut (Calls number input side session) h = absurd (never_call number input.value.items h)
-  where
-    never_call : (n : ℕ) (bytes : List ℕ) → ForCall n bytes ≡ ForNothing → ⊥
-    never_call n bytes h = cc
-is_shut (Awaits number service serving side) h = absurd (never_serving number service.value h)
-  where
-    never_serving : (n : ℕ) (b : Builtin) → ForServing n b ≡ ForNothing → ⊥
-    never_serving n b h = cc
-is_shut (Serves number service side session) h = absurd (never_serving number service.value h)
-  where
-    never_serving : (n : ℕ) (b : Builtin) → ForServing n b ≡ ForNothing → ⊥
-    never_serving n b h = cc
+is_shut (Calls number input side session) h = absurd (call_used number input.value.items h)
+is_shut (Awaits number service serving side) h = absurd (serving_used number service.value h)
+is_shut (Serves number service side session) h = absurd (serving_used number service.value h)
 is_shut (CallIsOver number input done end) h = refl
 is_shut (ServingIsOver number service outcome got end) h = refl
 is_shut Taken h = refl

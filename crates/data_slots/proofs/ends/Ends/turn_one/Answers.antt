@@ -8,7 +8,7 @@ use Rattle.data_slots.specs.Whole.{TakesFrom, held_in}
 use Rattle.data_slots.specs.Sessions.{TakesTurn, OneTakesTurn, session_of, sessions_in}
 use Rattle.data_slots.proofs.WholeLaws.{held_set}
 use Rattle.data_slots.proofs.TurnLaws.{IsBusy, busy_within, busy_slot, can_turn}
-use Rattle.data_slots.proofs.TurnedLaws.{Leaves, one_on, one_over}
+use Rattle.data_slots.proofs.StateLaws.{Leaves, one_on, one_over}
 use Rattle.data_slots.proofs.SessionLaws.{one_takes, read_at, takes_next, takes_removed}
 use Rattle.data_slots.proofs.ends.Ends.turn_one.Goals.{After-index_mut, After-turn}
 use Rattle.data_slots.proofs.ends.Ends.turn_one.Goals as goal

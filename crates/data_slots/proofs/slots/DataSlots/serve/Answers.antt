@@ -4,17 +4,36 @@ use Rattle.std.proofs.lemmas.Bool.{false≢true}
 use Rattle.std.proofs.Math.ListN.{length-set}
 use Rattle.list_laws.proofs.Each.{each_set}
 use Rattle.task_duties.specs.declared.place.PagePlace.TheVariants.{Payload}
-use Rattle.task_duties.specs.Places.{has_place, without}
-use Rattle.data_slots.specs.declared.note.ServedNote.{ServedNote}
+use Rattle.task_duties.specs.declared.done.SessionEnd.{SessionEnd}
+use Rattle.task_duties.specs.Places.{has_place}
 use Rattle.data_slots.specs.Slots.{SlotsState}
 use Rattle.data_slots.specs.Sessions.{KeepsSessions, sessions_in}
 use Rattle.data_slots.specs.Stages.{ForServing, CanRetire, IsStage, frame_of}
-use Rattle.data_slots.specs.Whole.{state_with}
-use Rattle.data_slots.proofs.WholeLaws.{IsPutTo}
-use Rattle.data_slots.proofs.BeginLaws.{is_free, free_client, used_within, whole_of}
-use Rattle.data_slots.proofs.BegunLaws.{serving_whole, serving_state}
-use Rattle.data_slots.proofs.SessionLaws.{keeps_sessions}
+use Rattle.data_slots.specs.Whole.{IsWhole, state_of}
+use Rattle.data_slots.proofs.BeginLaws.{IsFree, is_free, free_client, used_within, whole_of}
+use Rattle.data_slots.proofs.StateLaws.{HasBegun, in_use, serving_begun}
+use Rattle.data_slots.proofs.slots.DataSlots.serve.Goals.{After-index_mut, After-serve}
 use Rattle.data_slots.proofs.slots.DataSlots.serve.Goals as goal
+
+-- the slot that was found, and what is kept of all ends once its end is put to use
+whole : (c : After-index_mut) → IsWhole c.self.inside.ends
+whole c = whole_of c.self.inside.ends _ _ c.self.view_is c.requires.whole c.self.invariant.3
+
+free : (c : After-index_mut) → IsFree c.self.inside.ends.slots.items c.in-Some.at (Payload c.args.from c.self.inside.ends.domain c.args.port) c.index_mut.result.now
+free c = is_free c.self.inside.ends.slots.items c.in-Some.at _ c.index_mut.result.now c.in-Some.ensures.found c.index_mut.ensures.value
+
+begun : (c : After-serve) → IsWhole c.self.inside.ends → IsFree c.self.inside.ends.slots.items c.in-Some.at (Payload c.args.from c.self.inside.ends.domain c.args.port) c.index_mut.result.now
+    → HasBegun c.self.inside.ends c.self.inside.spent.value (set c.self.inside.ends.slots.items c.in-Some.at c.serve.new.self) c.push_within.new.list.items c.self.inside.ends.calls.items c.push.new.self.items
+    (Payload c.args.from c.self.inside.ends.domain c.args.port) (record { domain = c.args.from; port = c.args.port; call = None }) (state_of c.self.inside.ends c.self.inside.spent.value).called
+    ((state_of c.self.inside.ends c.self.inside.spent.value).served ++ record { from = c.args.from; port = c.args.port; service = c.args.service } ∷ [])
+begun c all free =
+    let e = c.self.inside.ends in
+    let counts : c.len-number.result ≡ length e.served.items = omega (arith, c.len-number.ensures, e.served.ok.0) in
+    serving_begun e _ _ _ (record { at = c.in-Some.at; from = c.args.from; port = c.args.port; service = c.of.result }) c.index_mut.result.now c.serve.new.self c.args.service c.len-number.result all free c.of.ensures counts (record {
+      frame = c.serve.ensures.frame ∙ ap (λ v. record (frame_of c.index_mut.result.now) { used = ForServing c.len-number.result v }) c.of-seen.ensures;
+      stage = subst (λ v. IsStage v c.serve.new.self.stage) c.in_ok-serving.ensures.asked.1 c.serve.ensures.stage;
+      session = c.serve.ensures.session;
+    }) (c.push_within.ensures.items ∙ ap (λ b. b ++ c.in-Some.at ∷ []) c.in_ok-reserve.ensures.items) c.in_ok-push.ensures.items
 
 pub find_unused-requires-clause-whole : goal.find_unused-requires-clause-whole
 find_unused-requires-clause-whole c = whole_of c.self.inside.ends _ _ c.self.view_is c.requires.whole c.self.invariant.3
@@ -32,64 +51,28 @@ index_mut-requires c = let e = c.self.inside.ends in let less = used_within e.sl
 
 pub serve-requires-clause-unused : goal.serve-requires-clause-unused
 serve-requires-clause-unused c =
+    let w = (goal.at.serve-requires-clause-unused c).After-index_mut in
     let e = c.self.inside.ends in
-    let whole = whole_of e _ _ c.self.view_is c.requires.whole c.self.invariant.3 in
-    free_client e.domain e.version c.args.from c.args.port e.slots.items c.in-Some.at c.index_mut.result.now whole.stages whole.of_domain (is_free e.slots.items c.in-Some.at _ c.index_mut.result.now c.in-Some.ensures.found c.index_mut.ensures.value)
+    free_client e.domain e.version c.args.from c.args.port e.slots.items c.in-Some.at c.index_mut.result.now (whole w).stages (whole w).of_domain (free w)
 
 pub invariant_of-self-2 : goal.invariant_of-self-2
 invariant_of-self-2 c =
-    let e = c.self.inside.ends in
-    let at = c.in-Some.at in
-    let slot = c.index_mut.result.now in
-    let free = is_free e.slots.items at _ slot c.in-Some.ensures.found c.index_mut.ensures.value in
-    let note : ServedNote = record { at = at; from = c.args.from; port = c.args.port; service = c.of.result } in
-    let number = c.len-number.result in
-    let counts : number ≡ length e.served.items = omega (arith, c.len-number.ensures, e.served.ok.0) in
-    let put : IsPutTo e.version slot c.serve.new.self (ForServing number c.args.service) = record {
-      frame = c.serve.ensures.frame ∙ ap (λ v. record (frame_of slot) { used = ForServing number v }) c.of-seen.ensures;
-      stage = subst (λ v. IsStage v c.serve.new.self.stage) c.in_ok-serving.ensures.asked.1 c.serve.ensures.stage;
-      session = c.serve.ensures.session;
-    } in
-    let busy = c.push_within.ensures.items ∙ ap (λ b. b ++ at ∷ []) c.in_ok-reserve.ensures.items in
-    let whole = whole_of e _ _ c.self.view_is c.requires.whole c.self.invariant.3 in (
-      each_set (λ s. CanRetire s.stage) e.slots.items at c.serve.new.self c.self.invariant.0 c.serve.ensures.retire,
+    let w = goal.at.invariant_of-self-2 c in
+    let slots = c.self.inside.ends.slots.items in (
+      each_set (λ s. CanRetire s.stage) slots c.in-Some.at c.serve.new.self c.self.invariant.0 c.serve.ensures.retire,
       c.self.invariant.1,
-      omega (arith, length-set e.slots.items at c.serve.new.self, c.self.invariant.2),
-      λ fine. serving_whole e.domain e.version e.slots.items e.index e.busy.items c.push_within.new.list.items e.calls.items e.served.items c.push.new.self.items note slot c.serve.new.self c.args.service number whole free
-          c.of.ensures counts put busy c.in_ok-push.ensures.items,
+      omega (arith, length-set slots c.in-Some.at c.serve.new.self, c.self.invariant.2),
+      λ fine. (begun w.After-serve (whole w.After-index_mut) (free w.After-index_mut)).whole,
     )
 
 pub returns-clause-ok : goal.returns-clause-ok
 returns-clause-ok c =
-    let e = c.self.inside.ends in
-    let at = c.in-Some.at in
-    let slot = c.index_mut.result.now in
-    let free = is_free e.slots.items at _ slot c.in-Some.ensures.found c.index_mut.ensures.value in
-    let note : ServedNote = record { at = at; from = c.args.from; port = c.args.port; service = c.of.result } in
-    let number = c.len-number.result in
-    let counts : number ≡ length e.served.items = omega (arith, c.len-number.ensures, e.served.ok.0) in
-    let put : IsPutTo e.version slot c.serve.new.self (ForServing number c.args.service) = record {
-      frame = c.serve.ensures.frame ∙ ap (λ v. record (frame_of slot) { used = ForServing number v }) c.of-seen.ensures;
-      stage = subst (λ v. IsStage v c.serve.new.self.stage) c.in_ok-serving.ensures.asked.1 c.serve.ensures.stage;
-      session = c.serve.ensures.session;
-    } in
-    let busy = c.push_within.ensures.items ∙ ap (λ b. b ++ at ∷ []) c.in_ok-reserve.ensures.items in
-    let whole = whole_of e _ _ c.self.view_is c.requires.whole c.self.invariant.3 in
-    let slots = set e.slots.items at c.serve.new.self in
-    let now = state_with e.domain e.version slots c.push_within.new.list.items e.calls.items c.push.new.self.items c.self.inside.spent.value in
-    subst (λ (s : SlotsState). now ≡ record s {
-      unused = without (Payload c.args.from s.domain c.args.port) s.unused;
-      served = s.served ++ record { from = c.args.from; port = c.args.port; service = c.args.service } ∷ [];
-      opened = s.opened ++ record { domain = c.args.from; port = c.args.port; call = None } ∷ [];
-      sessions = sessions_in slots;
-    }) c.self.view_is
-    (serving_state e.domain e.version e.slots.items e.index e.busy.items c.push_within.new.list.items e.calls.items e.served.items c.push.new.self.items c.self.inside.spent.value note slot c.serve.new.self c.args.service number whole free
-    c.of.ensures put busy c.in_ok-push.ensures.items)
+    let w = goal.at.returns-clause-ok c in
+    let told : SessionEnd = record { domain = c.args.from; port = c.args.port; call = None } in
+    (begun w.After-serve (whole w.After-index_mut) (free w.After-index_mut)).state
+    ∙ ap (λ (s : SlotsState). in_use s (Payload c.args.from s.domain c.args.port) told s.called (s.served ++ record { from = c.args.from; port = c.args.port; service = c.args.service } ∷ []) (set c.self.inside.ends.slots.items c.in-Some.at c.serve.new.self)) c.self.view_is
 
 pub returns-clause-kept : goal.returns-clause-kept
 returns-clause-kept c =
-    let e = c.self.inside.ends in
-    let slot = c.index_mut.result.now in
-    let free = is_free e.slots.items c.in-Some.at _ slot c.in-Some.ensures.found c.index_mut.ensures.value in
-    subst (λ (s : SlotsState). KeepsSessions s.sessions (sessions_in (set e.slots.items c.in-Some.at c.serve.new.self))) c.self.view_is
-    (keeps_sessions e.slots.items c.in-Some.at slot c.serve.new.self free.here free.unused)
+    let w = goal.at.returns-clause-kept c in
+    subst (λ (s : SlotsState). KeepsSessions s.sessions (sessions_in (set c.self.inside.ends.slots.items c.in-Some.at c.serve.new.self))) c.self.view_is (begun w.After-serve (whole w.After-index_mut) (free w.After-index_mut)).kept
