@@ -10,7 +10,7 @@ use Rattle.data_slots.specs.declared.ends.Ends.{Ends}
 use Rattle.data_slots.specs.Slots.{Held}
 use Rattle.data_slots.specs.Sessions.{Session, NotBegun, session_of, sessions_in, is_open}
 use Rattle.data_slots.specs.Agreeing.{place_if_free, places_free, SessionStands, IsOpenAt, Agrees}
-use Rattle.data_slots.specs.Stages.{Frame, place_of, frame_of, use_of, is_session, IsStage}
+use Rattle.data_slots.specs.Stages.{Frame, place_of, frame_of, use_of, is_session, IsStage, CanRetire}
 use Rattle.data_slots.specs.Whole.{frames, held_in, sessions, unused_at, unused_in, session_at, opened_in, IsNoted, IsWhole, state_of}
 use Rattle.data_slots.proofs.OpenLaws.{open_at}
 use Rattle.data_slots.proofs.TurnLaws.{tells_begun}
@@ -33,18 +33,18 @@ all_free version [] each = refl
 all_free version (s ∷ slots) each =
     one_free version (place_of s) s.stage (unused_in (frames slots)) each.0 ∙ ap (λ l. place_if_free (place_of s) (session_of s.stage) ++ l) (all_free version slots each.1)
 
-all_stand : (version : ℕ) (slots : List Slot) → Each (λ s. IsStage version s.stage) slots → Each (SessionStands version) (sessions_in slots)
-all_stand version [] each = tt
-all_stand version (s ∷ slots) each = (by_stage s.stage each.0, all_stand version slots each.1)
+all_stand : (version : ℕ) (slots : List Slot) → Each (λ s. IsStage version s.stage) slots → Each (λ s. CanRetire s.stage) slots → Each (SessionStands version) (sessions_in slots)
+all_stand version [] each can = tt
+all_stand version (s ∷ slots) each can = (by_stage s.stage each.0 can.0, all_stand version slots each.1 can.1)
   where
-    by_stage : (stage : Stage) → IsStage version stage → SessionStands version (session_of stage)
-    by_stage (Unused end) h = tt
-    by_stage (Calls number input side session) h = (h.0, h.1)
-    by_stage (Awaits number service serving side) h = tt
-    by_stage (Serves number service side session) h = (h.0, h.1, (service.value, h.2))
-    by_stage (CallIsOver number input done end) h = tt
-    by_stage (ServingIsOver number service outcome got end) h = tt
-    by_stage Taken h = absurd h
+    by_stage : (stage : Stage) → IsStage version stage → CanRetire stage → SessionStands version (session_of stage)
+    by_stage (Unused end) h can = tt
+    by_stage (Calls number input side session) h can = (h.0, h.1)
+    by_stage (Awaits number service serving side) h can = tt
+    by_stage (Serves number service side session) h can = (h.0, h.1, (service.value, h.2))
+    by_stage (CallIsOver number input done end) h can = can.0
+    by_stage (ServingIsOver number service outcome got end) h can = can.0
+    by_stage Taken h can = absurd h
 
 still_open : (stage : Stage) → is_session stage ≡ true → is_open (session_of stage) ≡ true
 still_open (Unused end) h = cc
@@ -55,10 +55,10 @@ still_open (CallIsOver number input done end) h = cc
 still_open (ServingIsOver number service outcome got end) h = cc
 still_open Taken h = cc
 
-pub agrees : (e : Ends) → IsWhole e → Agrees (state_of e false)
-agrees e whole = record {
+pub agrees : (e : Ends) → IsWhole e → Each (λ s. CanRetire s.stage) e.slots.items → Agrees (state_of e false)
+agrees e whole can = record {
   version = whole.version_is;
-  sessions = all_stand e.version slots whole.stages;
+  sessions = all_stand e.version slots whole.stages can;
   unused = all_free e.version slots whole.stages;
   opened = each e.busy.items (λ k less. open_at (sessions slots) e.busy.items k (get_or e.busy.items k 0) whole.are_open less (read_any e.busy.items k less));
 }

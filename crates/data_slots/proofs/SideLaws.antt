@@ -1,6 +1,6 @@
 -- What holds of an end under its page's name.
 use Rattle.std.proofs.Common.{◌≡◌, ℕ, List, ap, sym, subst, ◌∙◌, inl, inr, Vec, Global, Result, Ok, Err}
-use Rattle.std.specs.Prelude.{OnOk}
+use Rattle.std.specs.Prelude.{OnOk, true, false}
 use Rattle.std.specs.declared.snapshot.Snapshot.{Snapshot}
 use Rattle.end_view.specs.EndView.{EndView}
 use Rattle.task_duties.specs.declared.place.PagePlace.{PagePlace}
@@ -12,11 +12,11 @@ use Rattle.atomic_table.specs.Seated.{TableId}
 use Rattle.service_gate.specs.Triple.{Triple}
 use Rattle.service_gate.specs.Owing.{builtin_owes}
 use Rattle.service_gate.specs.declared.builtin.Builtin.{Builtin}
-use Rattle.channel_session.specs.Calling.{CallerAt, IsCalling, IsSameCall}
+use Rattle.channel_session.specs.Calling.{CallerAt, IsCalling, IsSameCall, IsRetired}
 use Rattle.channel_session.specs.Answering.{ServingAt, IsAnswering, IsAtWork}
 use Rattle.data_slots.specs.declared.stage.Stage.TheVariants.{Unused, Calls, Serves}
 use Rattle.data_slots.specs.declared.stage.Stage.{Stage}
-use Rattle.data_slots.specs.Stages.{Use, Frame, framed, IsStage}
+use Rattle.data_slots.specs.Stages.{Use, Frame, framed, IsStage, WasRetired}
 use Rattle.task_duties.specs.declared.ends.DoneEnd.{DoneEnd}
 use Rattle.task_duties.specs.declared.ends.UnusedEnd.{UnusedEnd}
 use Rattle.task_duties.specs.GivenEnds.{done_view, fresh_view}
@@ -62,6 +62,18 @@ serving_owes_seen (side.Client c) version name outcome got e h = record { owed =
 pub serving_over : (version : ℕ) (name : List ℕ) (s : PageSide) (end : DoneEnd) (outcome : Outcome) (got : List ℕ) (e : EndView) → done_view end ≡ seen_under s e → ServingOwes version name outcome got e
     → ServingOwes version name outcome got (done_view end)
 serving_over version name s end outcome got e seen h = subst (λ v. ServingOwes version name outcome got v) (sym seen) (serving_owes_seen s version name outcome got e h)
+
+-- an end that was retired is so under its page's name
+pub was_retired : (s : PageSide) (before last : EndView) (end : DoneEnd) → IsRetired before last → last.turned ≡ false → done_view end ≡ seen_under s last → WasRetired (done_view end)
+was_retired s before last end retired honest seen = subst WasRetired (sym seen) (under s)
+  where
+    gone : last.retired ≡ true
+    gone = ap (λ (v : EndView). v.retired) retired
+
+    under : (s : PageSide) → WasRetired (seen_under s last)
+    under side.Laid = (gone, honest)
+    under (side.Server k) = (gone, honest)
+    under (side.Client k) = (gone, honest)
 
 -- ---- a session goes on
 

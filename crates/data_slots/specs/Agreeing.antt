@@ -9,7 +9,7 @@ use Rattle.service_gate.specs.declared.builtin.Builtin.{Builtin}
 use Rattle.channel_session.specs.Calling.{IsCalling}
 use Rattle.channel_session.specs.Answering.{IsAnswering, IsAtWork}
 use Rattle.data_slots.specs.Slots.{SlotsState, place_at}
-use Rattle.data_slots.specs.Sessions.{Session, NotBegun, CallsWith, ServesWith, is_open, session_at}
+use Rattle.data_slots.specs.Sessions.{Session, NotBegun, CallsWith, ServesWith, EndedWith, is_open, session_at}
 use Rattle.data_slots.specs.Done.{IsToldOver}
 
 -- the places at which no session has begun
@@ -31,14 +31,15 @@ pub record IsOpenAt (s : SlotsState) (o : SessionEnd) : Type 0 where
   pub place_is : slice_get (places_of s) at ≡ Some (place_at s.domain o.call o.domain o.port)
   pub is_open : is_open (session_at s.sessions at) ≡ true
 
--- the two parts of a session that is open agree, in this version
+-- the two parts of a session that is open agree, in this version; the end of one that is over is retired
 abbrev pub SessionStands : ℕ → Session → Type 0
 SessionStands version (CallsWith at) = IsCalling at.caller at.end × (at.caller.replies.own ≡ version)
 SessionStands version (ServesWith at) =
     IsAtWork at.serving at.end × (at.serving.answering.own ≡ version) × ((service : Builtin) × IsAnswering (builtin_owes service) at.serving at.end)
+SessionStands version (EndedWith end) = end.retired ≡ true
 SessionStands version session = Unit {0}
 
--- an end is unused as long as its session hasn't begun, the parts of each session agree, and those that are told of as open are
+-- an end is unused as long as its session hasn't begun, the parts of each session agree, that of one that is over is retired, and those that are told of as open are
 pub record Agrees (s : SlotsState) : Type 0 where
   pub version : (2 ≤ s.version) × (s.version ≤ 3)
   pub sessions : Each (SessionStands s.version) s.sessions

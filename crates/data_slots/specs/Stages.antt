@@ -97,14 +97,18 @@ IsStage version (ServingIsOver number service outcome got end) =
     (name : List ℕ) → IsService name (builtin_owes service.value) → ServingOwes version name outcome got (done_view end)
 IsStage version Taken = ⊥
 
--- the end is between two calls, or it is retired and wasn't turned over
+-- an honest end was retired
+abbrev pub WasRetired : EndView → Type 0
+WasRetired end = (end.retired ≡ true) × (end.turned ≡ false)
+
+-- the end is between two calls, or it was retired and not turned over
 abbrev pub CanRetire : Stage → Type 0
 CanRetire (Unused end) = (fresh_view end).idle ≡ true
 CanRetire (Calls number input side session) = IsOpen session.end × IsSideOf side (view session.end)
 CanRetire (Awaits number service serving side) = Unit {0}
 CanRetire (Serves number service side session) = ((view session.end).idle ≡ true) × IsSideOf side (view session.end)
-CanRetire (CallIsOver number input done end) = (done_view end).turned ≡ false
-CanRetire (ServingIsOver number service outcome got end) = (done_view end).turned ≡ false
+CanRetire (CallIsOver number input done end) = WasRetired (done_view end)
+CanRetire (ServingIsOver number service outcome got end) = WasRetired (done_view end)
 CanRetire Taken = ⊥
 
 -- an end of this role that has done nothing yet

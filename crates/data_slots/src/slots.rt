@@ -239,8 +239,8 @@ impl<'p> DataSlots<'p> {
         count
     }
 
-    /// Says that an end is unused as long as its session hasn't begun, and that the sessions that are told of as
-    /// open are. It does nothing: proofs read it.
+    /// Says that an end is unused as long as its session hasn't begun, that the end of a session that is over is
+    /// retired, and that the sessions that are told of as open are. It does nothing: proofs read it.
     pub fn agree(&self)
         requires whole { self.now.spent ≡ false }
         ensures { Agrees self.now }

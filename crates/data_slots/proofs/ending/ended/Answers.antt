@@ -1,5 +1,5 @@
 use Rattle.std.proofs.Common.{sym, subst}
-use Rattle.vchan_rule.specs.Seated.{last_view}
+use Rattle.vchan_rule.specs.Seated.{view, last_view}
 use Rattle.task_duties.specs.GivenEnds.{done_view}
 use Rattle.service_gate.specs.Owing.{builtin_owes}
 use Rattle.task_duties.specs.Agent.Sessions.{ServingOwes}
@@ -7,7 +7,7 @@ use Rattle.data_slots.specs.declared.stage.Stage.{Stage}
 use Rattle.data_slots.specs.declared.stage.Stage.TheVariants.{Serves}
 use Rattle.data_slots.specs.Stages.{IsStage}
 use Rattle.data_slots.specs.Sessions.{EndedWith, ComesToItsEnd, session_of}
-use Rattle.data_slots.proofs.SideLaws.{serving_over}
+use Rattle.data_slots.proofs.SideLaws.{serving_over, was_retired}
 use Rattle.data_slots.proofs.SessionLaws.{call_ends, serving_ends}
 use Rattle.data_slots.proofs.ending.ended.Goals as goal
 
@@ -31,3 +31,10 @@ returns-in-Serves-clause-ends c =
     let end = c.finish-end-in-Serves.result in
     subst (λ (s : Stage). ComesToItsEnd (session_of s) (EndedWith (done_view end))) (sym c.in-Serves.is)
     (serving_ends c.in-Serves.session c.in-Serves.side (last_view c.finish-got.result.retired) end c.finish-got.ensures.end c.finish-end-in-Serves.ensures.view)
+
+pub returns-in-Calls-clause-retire : goal.returns-in-Calls-clause-retire
+returns-in-Calls-clause-retire c = was_retired c.in-Calls.side (view c.in-Calls.session.end) (last_view c.finish-done.result.retired) c.finish-end.result c.finish-done.ensures.end c.finish-done.ensures.honest c.finish-end.ensures.view
+
+pub returns-in-Serves-clause-retire : goal.returns-in-Serves-clause-retire
+returns-in-Serves-clause-retire c =
+    was_retired c.in-Serves.side (view c.in-Serves.session.end) (last_view c.finish-got.result.retired) c.finish-end-in-Serves.result c.finish-got.ensures.end c.finish-got.ensures.honest c.finish-end-in-Serves.ensures.view

@@ -7,4 +7,4 @@ use Rattle.data_slots.proofs.slots.DataSlots.agree.Goals as goal
 pub returns : goal.returns
 returns c =
     let e = c.self.inside.ends in
-    subst Agrees (state_is e _ _ c.self.view_is c.requires.whole) (agrees e (whole_of e _ _ c.self.view_is c.requires.whole c.self.invariant.3))
+    subst Agrees (state_is e _ _ c.self.view_is c.requires.whole) (agrees e (whole_of e _ _ c.self.view_is c.requires.whole c.self.invariant.3) c.self.invariant.0)
