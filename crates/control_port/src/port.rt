@@ -180,7 +180,11 @@ impl<'p> ControlPort<'p> {
         ensures heard { (heard : List Said) → HasHeard self.old heard → HasHeard self.new heard }
         ensures same { (self.new.talker ≡ self.old.talker) × (self.new.own ≡ self.old.own) × (self.new.version ≡ self.old.version) × (self.new.fault ≡ self.old.fault) }
     {
-        let answer = self.put(&Hello::announce(self.own))?;
+        let hello = Hello::announce(self.own);
+        let put = self.put(&hello);
+        // In a call: dropped here, each kind of message would be an exit of its own in the proof.
+        drop(hello);
+        let answer = put?;
         if answer == SendAnswer::Sent {
             self.greeted = true;
         }
@@ -299,6 +303,8 @@ impl<'p> ControlPort<'p> {
             return Ok(Some(message));
         }
         let kind = message.kind();
+        // In a call, for the same reason as in `greet`.
+        drop(message);
         self.fault = Some(SessionFault::WrongSide { at, kind });
         Ok(None)
     }
@@ -318,7 +324,10 @@ impl<'p> ControlPort<'p> {
             Some(message) => message,
             None => return Ok(false),
         };
-        match Hello::start(self.own).took(&message) {
+        let took = Hello::start(self.own).took(&message);
+        // In a call, for the same reason as in `greet`.
+        drop(message);
+        match took {
             Ok(version) => {
                 self.version = Some(version);
                 Ok(true)

@@ -16,8 +16,8 @@ returns-in-Ok-clause-greets c = λ heard h.
       ap (λ p. p.fault) c.self.view_is ∙ t.fault_is,
     )
 
-pub returns-clause-greets : goal.returns-clause-greets
-returns-clause-greets c = λ heard h.
+pub returns-in-Err-clause-greets : goal.returns-in-Err-clause-greets
+returns-in-Err-clause-greets c = λ heard h.
     let t = subst (λ o. Takes c.args.self.now c.take.new.self heard o) c.in-Some.is (c.in_ok-message.ensures.takes heard h) in
     let greets = ap (λ s. greeting s.own c.in-Some.message) (sym c.start.ensures) ∙ sym c.in-Err.ensures.greeting in (
       greets_not c.args.self.now c.take.new.self _ heard c.in-Some.message c.in-Err.fault (sym c.self.view_is) t c.requires.first c.in_ok-message.ensures.only.0 c.in_ok-message.ensures.only.1 greets,
