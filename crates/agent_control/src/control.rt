@@ -102,7 +102,10 @@ impl<'p> AgentControl<'p> {
             domain: end.domain,
             port: end.port,
         };
-        if !self.say(&message)? {
+        let said = self.say(&message);
+        // In a call: dropped here, each kind of message would be an exit of its own in the proof.
+        drop(message);
+        if !said? {
             return Ok(false);
         }
         match end.call {
@@ -181,7 +184,10 @@ impl<'p> AgentControl<'p> {
         let Some(message) = self.queue.front(alloc, version)? else {
             return Ok(false);
         };
-        if !self.say(&message)? {
+        let said = self.say(&message);
+        // In a call, for the same reason as in `tell`.
+        drop(message);
+        if !said? {
             return Ok(false);
         }
         self.queue.triggered();
