@@ -1,5 +1,5 @@
 -- A domain that is heard, event by event.
-use Rattle.std.proofs.Common.{◌≡◌, ◌≢◌, ℕ, ◌+◌, ◌-◌, ◌≤◌, Some, Bool, true, false, List, [], ◌∷◌, ◌++◌, length, refl, sym, ap, ◌∙◌, subst, arith, suc, zero, ◌<◌}
+use Rattle.std.proofs.Common.{◌≡◌, ◌≢◌, ℕ, ◌+◌, ◌-◌, ◌≤◌, Some, None, Bool, true, false, List, [], ◌∷◌, ◌++◌, length, refl, sym, ap, ◌∙◌, subst, arith, suc, zero, ◌<◌}
 use Rattle.std.proofs.Math.ListN.{set}
 use Rattle.std.specs.Prelude.{nat_le, filter_map, slice_index_or, IsPermutation, if◌then◌else◌}
 use Rattle.qrexec_frame.specs.declared.message.Message.{Message}
@@ -19,9 +19,9 @@ use Rattle.task_duties.specs.Broker.Outbox.{outbox, read_from, is_from, event_of
 use Rattle.broker_task.specs.declared.daemon.Daemon.{Daemon}
 use Rattle.broker_task.specs.declared.outbox.Letter.{Letter}
 use Rattle.broker_task.specs.Letters.{IsAt, messages_in}
-use Rattle.broker_task.specs.Lines.{is_shut, IsLine, IsGoing, ReadsOn, HasRead, HandsOut, HasRoom, OnlyPort}
+use Rattle.broker_task.specs.Lines.{is_shut, IsLine, IsGoing, ReadsOn, HasRead, HasReadAll, HandsOut, HasRoom, OnlyPort}
 use Rattle.broker_task.proofs.LineLaws.{read_still}
-use Rattle.broker_task.specs.Posting.{EachAt, EachMoves, SamePort, SameEnd, MovesPort, HasPosted, IsLetter, IsPosting, IsHearing}
+use Rattle.broker_task.specs.Posting.{EachAt, EachMoves, SamePort, SameEnd, MovesPort, HasPosted, IsLetter, IsPosting, IsHearing, HasHeardOut}
 use Rattle.broker_task.proofs.PostLaws.{each_moved, moves_one, moves_as, moves_then}
 
 -- ---- what was sent and waits, while ports move
@@ -184,6 +184,23 @@ hearing_next domain journal e ds new i x y there number own hands ports h =
     ((λ apart. absurd (apart number)), (λ same events reads. (hands events reads).0))
     (λ d z apart. ((λ away. refl), (λ same. absurd (apart (same ∙ sym number))))))
     ports
+
+-- nothing is left of what the domain has sent
+pub heard_out : (domain : ℕ) (journal : List Entry) (ds : List Daemon) (i : ℕ) (x y : Daemon) → IsAt ds i x → i + 1 ≡ domain → ((events : List Event) → ReadsOn x events → HandsOut y events None) → IsHearing domain journal ds
+    → HasHeardOut domain journal (set ds i y)
+heard_out domain journal ds i x y there number hands h =
+    let R : ℕ → Daemon → Daemon → Type 0 = λ d a b. (d ≢ domain → b ≡ a) × (d ≡ domain → (events : List Event) → ReadsOn a events → HasReadAll b events) in
+    let moves =
+    moves_one R ds i x y there ((λ apart. absurd (apart number)), (λ same events reads. hands events reads))
+    (λ d z apart. ((λ away. refl), (λ same. absurd (apart (same ∙ sym number))))) in
+    record {
+      others =
+          each_moved (λ d a. d ≢ domain → HasRead a (read_from journal d)) (λ d a. d ≢ domain → HasRead a (read_from journal d)) R ds (set ds i y) moves
+          (λ d a b m q apart. subst (λ (z : Daemon). HasRead z (read_from journal d)) (sym (m.0 apart)) (q apart)) h.others;
+      own =
+          each_moved (λ d a. d ≡ domain → ReadsOn a (read_from journal d)) (λ d a. d ≡ domain → HasReadAll a (read_from journal d)) R ds (set ds i y) moves
+          (λ d a b m q same. m.1 same (read_from journal d) (q same)) h.own;
+    }
 
 pub left_falls : (ds new : List Daemon) (i : ℕ) (x y : Daemon) → IsAt ds i x → HasFewerLeft x.port y.port → EachMoves SamePort (set ds i y) new → left_in new i < left_in ds i
 left_falls ds new i x y there fewer ports =

@@ -1,6 +1,7 @@
 -- What was read from a domain and sent to it, through the calls of its port.
 use Rattle.std.proofs.Common.{◌≡◌, ◌↔◌, ℕ, ◌≤◌, List, [], ◌∷◌, ◌++◌, refl, sym, ap, ◌∙◌, subst, arith, inl, inr, Option, Some, None, Bool, true, false}
-use Rattle.std.specs.Prelude.{filter_map, ◌==◌, ◌||◌, IsTrue, IsSome}
+use Rattle.std.specs.Prelude.{filter_map, ◌==◌, ◌||◌, IsTrue, IsSome, is_some}
+use Rattle.std.proofs.lemmas.Bool.{false≢true}
 use Rattle.std.proofs.lemmas.Bool.Decides.{nat_tests}
 use Rattle.std.proofs.lemmas.List.Elements.{filter_map-append}
 use Rattle.std.proofs.Math.Bool.{or-true}
@@ -8,7 +9,7 @@ use Rattle.qrexec_frame.specs.declared.message.Message.{Message}
 use Rattle.qrexec_frame.specs.declared.message.Message.TheVariants.{Hello, Exec, JustExec, Connect, Refused, Terminated, Trigger3, Trigger, Stdin, Stdout, Stderr, ExitCode}
 use Rattle.qrexec_frame.specs.Messages.{IsSpellable}
 use Rattle.qrexec_frame.specs.Texts.{FitsText}
-use Rattle.vchan_rule.specs.Seated.{view}
+use Rattle.vchan_rule.specs.Seated.{view, IsOpen}
 use Rattle.end_view.specs.EndView.{EndView}
 use Rattle.vchan_protocol.specs.declared.side.EndedBy.{EndedBy}
 use Rattle.vchan_protocol.specs.declared.side.EndedBy.TheVariants.{AllRead as ByAllRead, PeerGone as ByPeerGone}
@@ -31,7 +32,7 @@ use Rattle.task_duties.specs.Hearing.{to_broker, hears}
 use Rattle.task_duties.specs.Broker.Outbox.{event_of, is_from}
 use Rattle.task_duties.specs.Broker.Owes.{broker_version}
 use Rattle.broker_task.specs.declared.daemon.Daemon.{Daemon}
-use Rattle.broker_task.specs.Lines.{end_of, is_shut, is_gone, HasSeenEnd, MayDrop, IsGoing, more_may_come, ReadsOn, HasRead, HandsOut, HasRoom}
+use Rattle.broker_task.specs.Lines.{end_of, is_shut, is_gone, first_view, IsLine, IsSameDaemon, HasSeenEnd, MayDrop, IsGoing, more_may_come, ReadsOn, HasRead, HandsOut, HasRoom}
 
 -- ---- the event that a message is
 
@@ -147,12 +148,81 @@ sent_state e Sent payload = refl
 sent_state e (NoRoom prod cons) payload = refl
 sent_state e PeerClosed payload = refl
 
+sent_first : (e : EndView) (answer : SendAnswer) (payload : List ℕ) → first_view (sent_to e answer payload) ≡ first_view e
+sent_first e Sent payload = refl
+sent_first e (NoRoom prod cons) payload = refl
+sent_first e PeerClosed payload = refl
+
+sent_turned : (e : EndView) (answer : SendAnswer) (payload : List ℕ) → (sent_to e answer payload).turned ≡ e.turned
+sent_turned e Sent payload = refl
+sent_turned e (NoRoom prod cons) payload = refl
+sent_turned e PeerClosed payload = refl
+
 -- a port that has sent, or has found no room
+pub same_sent : (old new : Daemon) (answer : SendAnswer) (payload : List ℕ) → new.domain ≡ old.domain → new.awaited ≡ old.awaited → end_of new ≡ sent_to (end_of old) answer payload → IsSameDaemon old new
+same_sent old new answer payload domain awaited is = record { domain = domain; awaited = awaited; given = ap first_view is ∙ sent_first (end_of old) answer payload }
+
+pub read_sent : (old new : Daemon) (events : List Event) (answer : SendAnswer) (payload : List ℕ) → new.domain ≡ old.domain → new.port.fault ≡ old.port.fault → new.port.version ≡ old.port.version
+    → end_of new ≡ sent_to (end_of old) answer payload → ((heard : List Message) → HasHeard old.port heard → HasHeard new.port heard) → HasRead old events → HasRead new events
+read_sent old new events answer payload domain fault version is hears_on h =
+    read_still old new events domain (ap (λ (e : EndView). e.got) is ∙ sent_got (end_of old) answer payload) (ap (λ (e : EndView). is_shut e.state) is ∙ ap is_shut (sent_state (end_of old) answer payload)) fault version
+    (λ g. subst IsGoing (sym is) (sent_going (end_of old) answer payload g)) hears_on h
+
 pub read_sending : (old new : Daemon) (events : List Event) (answer : SendAnswer) (payload : List ℕ) → new.domain ≡ old.domain → OnlySends old.port new.port → end_of new ≡ sent_to (end_of old) answer payload
     → ((heard : List Message) → HasHeard old.port heard → HasHeard new.port heard) → HasRead old events → HasRead new events
-read_sending old new events answer payload domain only is hears_on h =
-    read_still old new events domain (ap (λ (e : EndView). e.got) is ∙ sent_got (end_of old) answer payload) (ap (λ (e : EndView). is_shut e.state) is ∙ ap is_shut (sent_state (end_of old) answer payload))
-    (ap (λ (p : PortState). p.fault) only) (ap (λ (p : PortState). p.version) only) (λ g. subst IsGoing (sym is) (sent_going (end_of old) answer payload g)) hears_on h
+read_sending old new events answer payload domain only is hears_on h = read_sent old new events answer payload domain (ap (λ (p : PortState). p.fault) only) (ap (λ (p : PortState). p.version) only) is hears_on h
+
+-- the line of a domain whose end is open
+pub line_open : (d : ℕ) (old new : Daemon) → new.domain ≡ old.domain → new.port.talker ≡ old.port.talker → new.port.own ≡ old.port.own → (end_of new).role ≡ (end_of old).role → (end_of new).turned ≡ (end_of old).turned → IsOpen new.port.end
+    → (new.port.greeted ≡ true → IsSome new.port.version) → IsLine d old → IsLine d new
+line_open d old new domain talker own role turned opened greets l =
+    let up : is_gone new ≡ false = ap is_shut opened.1 in
+    record {
+      number = domain ∙ l.number;
+      talker = talker ∙ l.talker;
+      own = own ∙ l.own;
+      idle = opened.0;
+      client = role ∙ l.client;
+      honest = turned ∙ l.honest;
+      retired = λ gone. absurd (false≢true (sym up ∙ gone));
+      cause = λ gone. absurd (false≢true (sym up ∙ gone));
+      greets = greets;
+    }
+
+pub line_sent : (d : ℕ) (old new : Daemon) (answer : SendAnswer) (payload : List ℕ) → new.domain ≡ old.domain → new.port.talker ≡ old.port.talker → new.port.own ≡ old.port.own → (end_of new).role ≡ (end_of old).role
+    → end_of new ≡ sent_to (end_of old) answer payload → IsOpen new.port.end → (new.port.greeted ≡ true → IsSome new.port.version) → IsLine d old → IsLine d new
+line_sent d old new answer payload domain talker own role is opened greets l =
+    line_open d old new domain talker own role (ap (λ (e : EndView). e.turned) is ∙ sent_turned (end_of old) answer payload) opened greets l
+
+pub line_sending : (d : ℕ) (old new : Daemon) (answer : SendAnswer) (payload : List ℕ) → new.domain ≡ old.domain → OnlySends old.port new.port → (end_of new).role ≡ (end_of old).role → end_of new ≡ sent_to (end_of old) answer payload
+    → IsOpen new.port.end → IsLine d old → IsLine d new
+line_sending d old new answer payload domain only role is opened l =
+    line_sent d old new answer payload domain (ap (λ (p : PortState). p.talker) only) (ap (λ (p : PortState). p.own) only) role is opened
+    (λ g. ap (λ (p : PortState). is_some p.version) only ∙ l.greets (sym (ap (λ (p : PortState). p.greeted) only) ∙ g)) l
+
+pub same_then : (x y z : Daemon) → IsSameDaemon x y → IsSameDaemon y z → IsSameDaemon x z
+same_then x y z first second = record { domain = second.domain ∙ first.domain; awaited = second.awaited ∙ first.awaited; given = second.given ∙ first.given }
+
+-- a port that has drained
+drained_first : (e : EndView) (answer : DrainAnswer) (buf : List ℕ) (saw : Bool) → first_view (drained_to e answer buf saw) ≡ first_view e
+drained_first e (More count) buf saw = refl
+drained_first e (NotYet prod cons) buf saw = refl
+drained_first e AllRead buf saw = refl
+drained_first e (PeerGone prod cons) buf saw = refl
+
+drained_turned : (e : EndView) (answer : DrainAnswer) (buf : List ℕ) (saw : Bool) → (drained_to e answer buf saw).turned ≡ e.turned
+drained_turned e (More count) buf saw = refl
+drained_turned e (NotYet prod cons) buf saw = refl
+drained_turned e AllRead buf saw = refl
+drained_turned e (PeerGone prod cons) buf saw = refl
+
+pub same_drained : (old new : Daemon) (answer : DrainAnswer) (buf : List ℕ) (saw : Bool) → new.domain ≡ old.domain → new.awaited ≡ old.awaited → end_of new ≡ drained_to (end_of old) answer buf saw → IsSameDaemon old new
+same_drained old new answer buf saw domain awaited is = record { domain = domain; awaited = awaited; given = ap first_view is ∙ drained_first (end_of old) answer buf saw }
+
+pub line_drained : (d : ℕ) (old new : Daemon) (answer : DrainAnswer) (buf : List ℕ) (saw : Bool) → new.domain ≡ old.domain → new.port.talker ≡ old.port.talker → new.port.own ≡ old.port.own → new.port.greeted ≡ old.port.greeted
+    → new.port.version ≡ old.port.version → (end_of new).role ≡ (end_of old).role → end_of new ≡ drained_to (end_of old) answer buf saw → IsOpen new.port.end → IsLine d old → IsLine d new
+line_drained d old new answer buf saw domain talker own greeted version role is opened l =
+    line_open d old new domain talker own role (ap (λ (e : EndView). e.turned) is ∙ drained_turned (end_of old) answer buf saw) opened (λ g. ap is_some version ∙ l.greets (sym greeted ∙ g)) l
 
 -- ---- an end that has seen the end of its peer: a drain ended its stream, or it found its peer gone
 

@@ -11,6 +11,7 @@ use Rattle.qrexec_frame.specs.Names.{cleaned_service, cleaned_target}
 use Rattle.call_broker.specs.declared.event.Event.{Event}
 use Rattle.call_broker.specs.declared.event.Event.TheVariants.{Trigger, Terminated, Dropped}
 use Rattle.call_broker.specs.Domains.{Domains, is_domain, name_of, count_of}
+use Rattle.call_broker.specs.Brokered.{Brokered, with_entry}
 use Rattle.call_broker.specs.Pair.{decision}
 use Rattle.call_broker.specs.declared.decision.Decision.{Decision}
 use Rattle.call_broker.specs.declared.decision.Decision.TheVariants as outcome
@@ -65,6 +66,12 @@ last_entry journal e d n long is =
     at_end : (xs : List Entry) → get_or (xs ++ e ∷ []) (length xs) d ≡ e
     at_end [] = refl
     at_end (x ∷ xs) = at_end xs
+
+-- the last entry of the journal that an event was put into is that of the event
+pub journal_end : (old new : Brokered) (after : List Entry) (e d : Entry) → after ≡ new.journal → new ≡ with_entry old e.event e.decision → d ≡ get_or after (length after - 1) d → get_or after (length after - 1) d ≡ e
+journal_end old new after e d entries kept is =
+    let journal_is : after ≡ old.journal ++ e ∷ [] = entries ∙ ap (λ (b : Brokered). b.journal) kept in
+    sym is ∙ last_entry old.journal e d (length after) (ap (λ (l : List Entry). length l) journal_is) (is ∙ ap (λ (l : List Entry). get_or l (length after - 1) d) journal_is)
 
 -- a slice of all of a list, once it was written to
 pub written_back : {A : Type 0} (new old : List A) (n : ℕ) → length new ≡ length old → n ≡ length old → take n (new ++ drop (length new) old) ≡ new

@@ -92,6 +92,8 @@ impl<'p> Switchboard<'p> {
         match self.daemons[domain as usize - 1].send()? {
             Some(message) => {
                 self.let_go(domain, &message);
+                // In a call: dropped here, each kind of message would be an exit of its own in the proof.
+                drop(message);
                 Ok(true)
             }
             None => Ok(false),
@@ -159,8 +161,14 @@ fn post(daemons: &mut [Daemon<'_>], from: u32, reply: Reply) -> Result<(), Memor
         Reply::Nothing => Ok(()),
         Reply::Refused { refused } => daemons[from as usize - 1].answer(refused, false),
         Reply::Accepted { to, exec, connect } => {
-            daemons[from as usize - 1].answer(connect, true)?;
-            daemons[to as usize - 1].outbox.put(exec, false)
+            match daemons[from as usize - 1].answer(connect, true) {
+                Ok(()) => daemons[to as usize - 1].outbox.put(exec, false),
+                Err(Memory) => {
+                    // In a call, for the same reason as in `send_one`.
+                    drop(exec);
+                    Err(Memory)
+                }
+            }
         }
     }
 }

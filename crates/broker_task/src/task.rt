@@ -84,12 +84,16 @@ impl<'p> BrokerTask<'p> {
         ensures unmade { IfErr result (λ ends. ends ≡ controls.entry) }
     {
         let Ok(buf) = vec![in alloc; 0u8; CHUNK] else {
+            // In a call, here and below: dropped here, each field of the broker would be a step of the proof.
+            drop(broker);
             return Err(controls);
         };
         let Ok(retired) = Vec::with_capacity(alloc, controls.len()) else {
+            drop(broker);
             return Err(controls);
         };
         let Ok(room) = Vec::with_capacity(alloc, controls.len()) else {
+            drop(broker);
             return Err(controls);
         };
         let daemons = daemons_of(alloc, awaited.as_slice(), controls, room);
@@ -137,7 +141,9 @@ impl<'p> BrokerTask<'p> {
                 after_round(switchboard, buf, retired, moved)
             }
             Err(Memory) => {
-                let ends = give_up(switchboard.daemons, retired);
+                let Switchboard { broker, daemons } = switchboard;
+                drop(broker);
+                let ends = give_up(daemons, retired);
                 TaskTurn::NoMemory { ends }
             }
         }
@@ -152,7 +158,9 @@ impl<'p> BrokerTask<'p> {
             retired,
             ..
         } = self;
-        give_up(switchboard.daemons, retired)
+        let Switchboard { broker, daemons } = switchboard;
+        drop(broker);
+        give_up(daemons, retired)
     }
 }
 

@@ -33,14 +33,14 @@ returns-in-Refused-clause-posts c = λ hub event decided own is fit.
     (record { port = c.answer.ensures.port; domain = c.answer.ensures.same.0; awaited = c.answer.ensures.same.1; letters = put; counted = counted }))
     (λ d a b adds. posts_refused hub event decided from d c.in-Refused.refused a b own (subst (λ r. IsReplyTo hub event decided r) c.in-Refused.is is) (subst (λ r. AreFit hub r) c.in-Refused.is fit) adds))
 
-pub returns-in_err-answer-in-Accepted-clause-ports : goal.returns-in_err-answer-in-Accepted-clause-ports
-returns-in_err-answer-in-Accepted-clause-ports c =
+pub returns-in-Err-clause-ports : goal.returns-in-Err-clause-ports
+returns-in-Err-clause-ports c =
     moves_one SamePort c.args.daemons.now (c.args.from - 1) _ c.answer-in-Accepted.new.self
     (at_item c.args.daemons.now (c.args.from - 1) c.index-daemons-from-in-Accepted.result (omega arith) c.index-daemons-from-in-Accepted.is)
     (c.answer-in-Accepted.ensures.port, c.answer-in-Accepted.ensures.same.0, c.answer-in-Accepted.ensures.same.1) (λ d z apart. same_port d z)
 
-pub returns-in_ok-answer-in-Accepted-clause-ports : goal.returns-in_ok-answer-in-Accepted-clause-ports
-returns-in_ok-answer-in-Accepted-clause-ports c =
+pub returns-in-Ok-clause-ports : goal.returns-in-Ok-clause-ports
+returns-in-Ok-clause-ports c =
     let ds = c.args.daemons.now in
     let from = c.args.from in
     let to = c.in-Accepted.to in
@@ -54,8 +54,8 @@ returns-in_ok-answer-in-Accepted-clause-ports c =
     (refl, refl, refl) (λ d z apart. same_port d z))
     port_then
 
-pub returns-in_ok-answer-in-Accepted-clause-posts : goal.returns-in_ok-answer-in-Accepted-clause-posts
-returns-in_ok-answer-in-Accepted-clause-posts c = λ hub event decided own is fit.
+pub returns-in-Ok-clause-posts : goal.returns-in-Ok-clause-posts
+returns-in-Ok-clause-posts c = λ hub event decided own is fit.
     let ds = c.args.daemons.now in
     let from = c.args.from in
     let to = c.in-Accepted.to in
@@ -70,7 +70,7 @@ returns-in_ok-answer-in-Accepted-clause-posts c = λ hub event decided own is fi
     moves_then (λ d. Adds (letter_if (d == from) connect) (count_if (d == from) 1)) (λ d. Adds (letter_if (d == to) exec) (count_if (d == to) 0)) (Posts hub (record { event = event; decision = decided }))
     ds mid (set mid (to - 1) (record y { outbox = c.put.new.self }))
     (moves_letter ds from connect 1 x c.answer-in-Accepted.new.self c.requires.sender.0 (at_item ds (from - 1) c.index-daemons-from-in-Accepted.result (omega arith) c.index-daemons-from-in-Accepted.is)
-    (record { port = c.answer-in-Accepted.ensures.port; domain = c.answer-in-Accepted.ensures.same.0; awaited = c.answer-in-Accepted.ensures.same.1; letters = c.in_ok-answer-in-Accepted.ensures.put; counted = c.in_ok-answer-in-Accepted.ensures.counted }))
+    (record { port = c.answer-in-Accepted.ensures.port; domain = c.answer-in-Accepted.ensures.same.0; awaited = c.answer-in-Accepted.ensures.same.1; letters = c.in-Ok.ensures.put; counted = c.in-Ok.ensures.counted }))
     (moves_letter mid to exec 0 y (record y { outbox = c.put.new.self }) within.0 (at_item mid (to - 1) c.index-daemons-to.result (omega (arith, within, length-set ds (from - 1) c.answer-in-Accepted.new.self)) c.index-daemons-to.is)
     (record { port = refl; domain = refl; awaited = refl; letters = put; counted = omega arith }))
     (λ d a b z first second.

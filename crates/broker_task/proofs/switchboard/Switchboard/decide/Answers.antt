@@ -1,13 +1,18 @@
-use Rattle.std.proofs.Common.{◌≡◌, ◌∙◌, ◌-◌, ap, sym, subst, length, get_or, List, [], ◌∷◌, ◌++◌, arith, take, drop}
+use Rattle.std.proofs.Common.{◌≡◌, ◌∙◌, ◌+◌, ap, sym, subst, length, List, ◌++◌, arith, take, drop}
 use Rattle.std.specs.Prelude.{OnOk}
+use Rattle.std.proofs.lemmas.List.{length_push}
+use Rattle.std.proofs.lemmas.List.Sums.{count_by-le-length}
 use Rattle.call_broker.specs.declared.decision.Entry.{Entry}
 use Rattle.call_broker.specs.Brokered.{Brokered}
-use Rattle.call_broker.specs.Journal.{events}
+use Rattle.call_broker.specs.Journal.{events, IsNumbered}
+use Rattle.task_duties.specs.Broker.Outbox.{is_answer}
 use Rattle.broker_task.specs.declared.daemon.Daemon.{Daemon}
-use Rattle.broker_task.specs.Replies.{IsReplyTo, IsWithin, AreFit}
+use Rattle.broker_task.specs.Replies.{IsReplyTo, IsWithin, AreFit, HasShortNames}
+use Rattle.broker_task.specs.Letters.{IsAt}
+use Rattle.broker_task.specs.Lines.{HasRoom}
 use Rattle.broker_task.specs.Posting.{EachMoves, Posts, IsPosting}
 use Rattle.broker_task.proofs.PostLaws.{on_ok, moves_as}
-use Rattle.broker_task.proofs.ReplyLaws.{within_reply, last_entry, moved_back, numbered_from}
+use Rattle.broker_task.proofs.ReplyLaws.{within_reply, journal_end, moved_back, numbered_from}
 use Rattle.broker_task.proofs.PostingLaws.{posting_more}
 use Rattle.broker_task.specs.Moving.{StandsBy}
 use Rattle.broker_task.proofs.MovingLaws.{by_posts}
@@ -23,13 +28,37 @@ entry c = record { event = c.args.event; decision = c.in_ok-decision.decision }
 reply : (c : After-as_mut_slice) → IsReplyTo c.args.self.now.broker.hub c.args.event c.in_ok-decision.decision c.in_ok-reply.reply
 reply c =
     let kept = c.in_ok-decision.ensures.kept in
-    let after = c.journal-journal.result.now in
-    let old = c.args.self.now.broker.journal in
-    let journal_is : after ≡ old ++ entry c ∷ [] = c.journal-journal.ensures.entries ∙ ap (λ (b : Brokered). b.journal) kept in
-    let last = last_entry old (entry c) c.index-journal-journal.result (length after) (ap length journal_is)
-    (c.index-journal-journal.is ∙ ap (λ (l : List Entry). get_or l (length after - 1) c.index-journal-journal.result) journal_is) in
+    let last = journal_end c.args.self.now.broker c.event.new.self c.journal-journal.result.now (entry c) c.index-journal-journal.result c.journal-journal.ensures.entries kept c.index-journal-journal.is in
     subst (λ (b : Brokered). IsReplyTo b.hub c.args.event c.in_ok-decision.decision c.in_ok-reply.reply) kept
-    (subst (λ (x : Entry). IsReplyTo c.event.new.self.hub x.event c.in_ok-decision.decision c.in_ok-reply.reply) (sym c.index-journal-journal.is ∙ last) c.in_ok-reply.ensures.reply)
+    (subst (λ (x : Entry). IsReplyTo c.event.new.self.hub x.event c.in_ok-decision.decision c.in_ok-reply.reply) last c.in_ok-reply.ensures.reply)
+
+pub event-requires : goal.event-requires
+event-requires c = numbered_from c.args.self.now.broker.hub c.args.from c.args.event c.requires.own c.requires.sender c.requires.room
+
+pub reply_to-requires-clause-numbered : goal.reply_to-requires-clause-numbered
+reply_to-requires-clause-numbered c =
+    let e : Entry = record { event = c.args.event; decision = c.in_ok-decision.decision } in
+    let kept = c.in_ok-decision.ensures.kept in
+    let last = journal_end c.args.self.now.broker c.event.new.self c.journal-journal.result.now e c.index-journal-journal.result c.journal-journal.ensures.entries kept c.index-journal-journal.is in
+    subst (λ (z : Brokered × Entry). IsNumbered z.0.hub z.1.event) (λ i. (sym kept i, sym last i)) (numbered_from c.args.self.now.broker.hub c.args.from c.args.event c.requires.own c.requires.sender c.requires.room)
+
+pub reply_to-requires-clause-room : goal.reply_to-requires-clause-room
+reply_to-requires-clause-room c =
+    let e : Entry = record { event = c.args.event; decision = c.in_ok-decision.decision } in
+    let last = journal_end c.args.self.now.broker c.event.new.self c.journal-journal.result.now e c.index-journal-journal.result c.journal-journal.ensures.entries c.in_ok-decision.ensures.kept c.index-journal-journal.is in
+    subst (λ (x : Entry). HasRoom x.event) (sym last) c.requires.room
+
+pub reply_to-requires-clause-names : goal.reply_to-requires-clause-names
+reply_to-requires-clause-names c = subst (λ (b : Brokered). HasShortNames b.hub) (sym c.in_ok-decision.ensures.kept) c.requires.names
+
+pub post-requires-clause-few : goal.post-requires-clause-few
+post-requires-clause-few c = λ i x at.
+    let old = c.args.self.now.broker.journal in
+    let there : IsAt c.args.self.now.daemons.items i x = subst (λ (l : List Daemon). IsAt l i x) c.as_mut_slice.ensures.value at in
+    let counted = (c.requires.posting.posted i x there).counted in
+    let few = count_by-le-length (λ (e : Entry). is_answer (i + 1) e.event e.decision) old in
+    let longer : length c.journal-journal.result.now ≡ length old + 1 = ap (λ (l : List Entry). length l) (c.journal-journal.ensures.entries ∙ ap (λ (b : Brokered). b.journal) c.in_ok-decision.ensures.kept) ∙ length_push old _ in
+    omega (arith, counted, few, longer)
 
 pub post-requires-clause-target : goal.post-requires-clause-target
 post-requires-clause-target c =
