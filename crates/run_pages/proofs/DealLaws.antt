@@ -1,6 +1,6 @@
 -- Dealing one page more.
 use Rattle.std.proofs.Common.{◌≡◌, ◌≢◌, ◌⊎◌, inl, inr, ℕ, ◌+◌, ◌-◌, ◌<◌, ◌≤◌, List, [], ◌∷◌, ◌++◌, length, map, set, refl, ap, sym, ◌∙◌, subst, arith, append_assoc, length-append, length-set, Some}
-use Rattle.std.specs.Prelude.{◌==◌, true, false, slice_get, if◌then◌else◌}
+use Rattle.std.specs.Prelude.{◌==◌, not, Bool, true, false, slice_get, if◌then◌else◌}
 use Rattle.std.proofs.lemmas.List.{append-nil, map-append, length-map}
 use Rattle.std.proofs.lemmas.List.Elements.{filter_map-append}
 use Rattle.std.proofs.lemmas.Bool.{eq-eqb, ne_eqb}
@@ -9,8 +9,10 @@ use Rattle.std.proofs.lemmas.Option.{slice_get_within}
 use Rattle.std.specs.List.{AllByRecursion as Each}
 use Rattle.list_laws.proofs.Each.{each_push}
 use Rattle.list_laws.proofs.Places.{get_push, get_set}
-use Rattle.end_view.specs.EndView.{EndView}
-use Rattle.vchan_rule.specs.Seated.{SeatedEnd, view}
+use Rattle.end_view.specs.EndView.{EndView, view_of, state_at_first}
+use Rattle.vchan_rule.specs.Seated.{PageView, SeatView, SeatedEnd, view}
+use Rattle.vchan_core.specs.OneMachine.Phases.{IsIdle}
+use Rattle.vchan_protocol.specs.History.Core.{new_side}
 use Rattle.ring_words.specs.declared.page.Role.{Role}
 use Rattle.task_duties.specs.TaskOwes.{EndAt, all_ends, broker_ends}
 use Rattle.task_duties.specs.GivenEnds.{all_given, given_at}
@@ -163,6 +165,17 @@ control_dealt pages controls hands hands' p domain server client dealt place nex
         ends_more pages p number
         ∙ ap (λ l. l ++ new_ends (p ∷ []) number) (dealt.beyond number (omega (arith, far, adds.count)))
         ∙ ends_none p number (λ e. absurd (omega (arith, e, server_at, next, far, adds.count))) (λ e. absurd (omega (arith, e, client_at, far)))
+
+-- ---- a page of either kind
+
+-- the end of a seat has done nothing
+pub attached : (p : PageView) (role : Role) (seat : SeatView) (e : SeatedEnd) → seat ≡ record { page = p; role = role } → e.page ≡ p.table → e.side ≡ new_side seat.role p.orders p.start (state_at_first seat.role) → IsIdle e.machine
+    → view e ≡ view_of p.table true (new_side role p.orders p.start (state_at_first role))
+attached p role seat e is page side idle = λ i. view_of (page i) (not (idle i)) ((side ∙ ap (λ (s : SeatView). new_side s.role p.orders p.start (state_at_first s.role)) is) i)
+
+pub is_no : (b : Bool) → not b ≡ true → b ≡ false
+is_no true is = cc
+is_no false is = refl
 
 -- ---- a data page
 

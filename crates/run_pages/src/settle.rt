@@ -85,8 +85,11 @@ fn settle_laid(
     requires client { ((done_view client).page ≡ page.table) × ((done_view client).role ≡ Client) }
     ensures { IfOk result (IsSettledAs place (words_of page) (done_view server) (done_view client)) }
 {
-    let server = laid_end(server)?;
-    let client = laid_end(client)?;
+    // Both are taken out first: so no end of an unknown kind is dropped here.
+    let server = laid_end(server);
+    let client = laid_end(client);
+    let server = server?;
+    let client = client?;
     let settled = page.finish(server, client);
     settled.promise();
     Ok(SettledPage {
@@ -118,8 +121,11 @@ fn settle_offered(
     requires client { (done_view client).page ≡ page.client.value }
     ensures { IfOk result (IsSettledAs (Payload page.from page.to page.port) (record { orders = page.orders; start = page.start }) (done_view server) (done_view client)) }
 {
-    let server = server_side(server)?;
-    let client = client_side(client)?;
+    // Both are taken out first: so no end of an unknown kind is dropped here.
+    let server = server_side(server);
+    let client = client_side(client);
+    let server = server?;
+    let client = client?;
     server.promise();
     let settled = settle(alloc, &starts.payload, server, client)?;
     settled.promise();
