@@ -1,10 +1,11 @@
 -- A task whose acts are all done owes the trails of its ends.
-use Rattle.std.proofs.Common.{◌≡◌, ℕ, ◌+◌, Bool, true, false, List, [], ◌∷◌, ◌++◌, Option, None, length, map, take, if◌then◌else◌, refl, sym, subst, ap, ◌∙◌, arith}
+use Rattle.std.proofs.Common.{◌≡◌, ℕ, Bool, true, false, List, [], ◌∷◌, ◌++◌, Option, None, length, map, take, if◌then◌else◌, sym, subst, ap, ◌∙◌, arith}
 use Rattle.std.specs.List.{flat_map, AllByRecursion as Each, AllZip as EachPair}
 use Rattle.std.specs.Option.{option_and_then}
 use Rattle.std.proofs.lemmas.List.{append-nil}
 use Rattle.std.proofs.lemmas.Option.{slice_get_past}
 use Rattle.std.proofs.Math.Seq.{take-length}
+use Rattle.std.proofs.lemmas.Simd.{map-map}
 use Rattle.list_laws.proofs.Each.{each_through}
 use Rattle.ring_words.specs.declared.page.Role.{Role}
 use Rattle.ring_words.specs.declared.page.Role.TheVariants.{Server}
@@ -37,29 +38,10 @@ use Rattle.hostile_task.specs.Pages.{AreSamePages, IsRetiredOf, given_in, given_
 use Rattle.hostile_task.specs.UnderWay.{IsTrailSoFar, IsPart, words_at, ActsDone, IsPageSoFar, IsUnderWay}
 use Rattle.hostile_task.specs.Finishing.{Finishes}
 use Rattle.hostile_task.specs.Turns.{Pays}
+use Rattle.hostile_task.proofs.ListLaws.{each_of_pairs, map_pairs, pairs_of_pairs}
 use Rattle.hostile_task.proofs.PageLaws.{along_before}
 use Rattle.hostile_task.proofs.TurnLaws.{none_left, state_of}
 use Rattle.hostile_task.proofs.TrailLaws.{all_acts}
-
--- ---- lists in step
-
-each_of_pairs : {A B : Type 0} (R : A → B → Type 0) (P : A → Type 0) (Q : B → Type 0) (xs : List A) (ys : List B) → ((x : A) (y : B) → R x y → P x → Q y) → EachPair R xs ys → Each P xs → Each Q ys
-each_of_pairs R P Q [] [] gives pairs all = tt
-each_of_pairs R P Q [] (y ∷ ys) gives pairs all = absurd pairs
-each_of_pairs R P Q (x ∷ xs) [] gives pairs all = absurd pairs
-each_of_pairs R P Q (x ∷ xs) (y ∷ ys) gives pairs all = (gives x y pairs.0 all.0, each_of_pairs R P Q xs ys gives pairs.1 all.1)
-
-pairs_of_pairs : {A B C D : Type 0} (R : A → B → Type 0) (P : A → Type 0) (S : C → D → Type 0) (f : A → C) (g : B → D) (xs : List A) (ys : List B) → ((x : A) (y : B) → R x y → P x → S (f x) (g y)) → EachPair R xs ys → Each P xs → EachPair S (map f xs) (map g ys)
-pairs_of_pairs R P S f g [] [] gives pairs all = tt
-pairs_of_pairs R P S f g [] (y ∷ ys) gives pairs all = absurd pairs
-pairs_of_pairs R P S f g (x ∷ xs) [] gives pairs all = absurd pairs
-pairs_of_pairs R P S f g (x ∷ xs) (y ∷ ys) gives pairs all = (gives x y pairs.0 all.0, pairs_of_pairs R P S f g xs ys gives pairs.1 all.1)
-
-map_pairs : {A B C : Type 0} (R : A → B → Type 0) (f : A → C) (g : B → C) (xs : List A) (ys : List B) → ((x : A) (y : B) → R x y → g y ≡ f x) → EachPair R xs ys → map g ys ≡ map f xs
-map_pairs R f g [] [] same pairs = refl
-map_pairs R f g [] (y ∷ ys) same pairs = absurd pairs
-map_pairs R f g (x ∷ xs) [] same pairs = absurd pairs
-map_pairs R f g (x ∷ xs) (y ∷ ys) same pairs = λ i. same x y pairs.0 i ∷ map_pairs R f g xs ys same pairs.1 i
 
 -- ---- the end at a place
 
@@ -168,9 +150,5 @@ done_pays domain pages p spelled (turn.Done done) way all finishes = (
     back : AreGivenBack true (map given_of every) ends
     back = are_back plan p every done.ends.items way.so_far finishes.1
 
-    map_places : (rs : List RetiredEnd) → map (λ e. e.place) (all_retired rs) ≡ map (λ r. r.place) rs
-    map_places [] = refl
-    map_places (r ∷ rs) = ap (λ (ps : List PagePlace). r.place ∷ ps) (map_places rs)
-
     places : map (λ e. e.place) ends ≡ places_in pages
-    places = map_places done.ends.items ∙ map_pairs IsRetiredOf (λ q. q.place) (λ r. r.place) every done.ends.items (λ page r retired. retired.place) finishes.1
+    places = map-map (λ e. e.place) retired_at done.ends.items ∙ map_pairs IsRetiredOf (λ q. q.place) (λ r. r.place) every done.ends.items (λ page r retired. retired.place) finishes.1

@@ -29,9 +29,8 @@ use Rattle.list_laws.proofs.Tests.{equal_either_way}
 
 pub is_place_comm : (p q : PagePlace) → is_place p q ≡ is_place q p
 is_place_comm (Control d) (Control e) = equal_either_way d e
-is_place_comm (Control d) (Payload from to port) = refl
-is_place_comm (Payload from to port) (Control d) = refl
 is_place_comm (Payload f t p) (Payload from to port) = λ i. (equal_either_way f from i && equal_either_way t to i) && equal_either_way p port i
+is_place_comm _ _ = refl
 
 -- the store of the page at an index, and no other
 abbrev pub falls_on : List PagePlace → ℕ → PastEvent → PagePlace → List PastEvent

@@ -1,6 +1,6 @@
 -- One turn of saying after the others.
-use Rattle.std.proofs.Common.{◌≡◌, ◌≢◌, ◌⊎◌, ℕ, ◌+◌, ◌%◌, ◌^◌, ◌<◌, ◌≤◌, min, suc, zero, List, [], ◌∷◌, ◌++◌, Bool, true, false, length, take, drop, inl, inr, ⊎_elim, refl, sym, subst, ap, ◌∙◌, append_assoc, zero-add, arith}
-use Rattle.std.proofs.lemmas.List.{append-nil, length-append, length-drop, take-append-le}
+use Rattle.std.proofs.Common.{◌≡◌, ◌≢◌, ◌⊎◌, ℕ, ◌+◌, ◌%◌, ◌^◌, ◌<◌, ◌≤◌, min, List, [], ◌∷◌, ◌++◌, Bool, true, false, length, take, drop, inl, inr, ⊎_elim, refl, sym, subst, ap, ◌∙◌, append_assoc, arith}
+use Rattle.std.proofs.lemmas.List.{append-nil, drop-drop, drop_all, length-append, length-drop, take-append-le}
 use Rattle.std.proofs.lemmas.Bool.{cases_lt}
 use Rattle.std.proofs.Math.Seq.{take-append_seam}
 use Rattle.ring_words.specs.Rings.{room}
@@ -56,26 +56,8 @@ says_no_more v bytes p events so_far few stops = record {
   voice_is = so_far.voice_is;
   turns = omega (arith, so_far.turns);
   goes_on = so_far.goes_on;
-  stops = ⊎_elim (λ all. inl (sym so_far.left_is ∙ drop_all bytes p.said all)) (λ last. inr (so_far.turns ∙ last)) stops;
+  stops = ⊎_elim (λ all. inl (sym so_far.left_is ∙ drop_all p.said bytes all)) (λ last. inr (so_far.turns ∙ last)) stops;
 }
-  where
-    drop_all : (xs : List ℕ) (n : ℕ) → length xs ≤ n → drop n xs ≡ []
-    drop_all [] zero within = refl
-    drop_all [] (suc n) within = refl
-    drop_all (x ∷ xs) zero within = absurd (omega arith)
-    drop_all (x ∷ xs) (suc n) within = drop_all xs n (omega arith)
-
-drop_none : (k : ℕ) → drop {A = ℕ} k [] ≡ []
-drop_none zero = refl
-drop_none (suc k) = refl
-
-drop_add : (xs : List ℕ) (m n : ℕ) → drop (m + n) xs ≡ drop n (drop m xs)
-drop_add xs zero n = ap (λ (k : ℕ). drop k xs) (zero-add n)
-drop_add [] (suc m) n = drop_none (suc m + n) ∙ sym (drop_none n)
-drop_add (x ∷ xs) (suc m) n = ap (λ (k : ℕ). drop k (x ∷ xs)) (suc_plus m n) ∙ drop_add xs m n
-  where
-    suc_plus : (a b : ℕ) → suc a + b ≡ suc (a + b)
-    suc_plus a b = omega arith
 
 -- one more turn of sending
 pub says_more : (v : Voice) (bytes : List ℕ) (p next : Progress) (events : List PastEvent) (cons : ℕ) → SaysSoFar v bytes p events → p.said < length bytes
@@ -93,7 +75,7 @@ says_more v bytes p next events cons so_far some turns count own =
       events_are = (λ i. so_far.events_are i ++ said_once (voice i) (left i) cons) ∙ ap (λ (s : Saying). s.events) (sym push);
       voice_is = (λ i. record v { own = own i }) ∙ (λ i. moved (voice i) (fits (voice i) (left i) cons)) ∙ ap (λ (s : Saying). s.voice) (sym push);
       within = omega (arith, count, length-drop p.said bytes);
-      left_is = ap (λ (k : ℕ). drop k bytes) count ∙ drop_add bytes p.said n ∙ (λ i. drop (fits (voice i) (left i) cons) (left i)) ∙ ap (λ (s : Saying). s.left) (sym push);
+      left_is = ap (λ (k : ℕ). drop k bytes) count ∙ sym (drop-drop n p.said bytes) ∙ (λ i. drop (fits (voice i) (left i) cons) (left i)) ∙ ap (λ (s : Saying). s.left) (sym push);
       goes_on = λ k less. ⊎_elim
           (λ earlier. subst (λ (ls : List ℕ). (said v bytes ls).left ≢ []) (sym (take-append-le k so_far.loads (cons ∷ []) (omega (arith, earlier)))) (so_far.goes_on k earlier))
           (λ last.

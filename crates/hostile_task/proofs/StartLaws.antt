@@ -1,6 +1,7 @@
 -- A task that begins: its ends are turned over, and nothing is done.
-use Rattle.std.proofs.Common.{◌≡◌, ℕ, true, List, [], ◌∷◌, ◌++◌, length, map, slice_get, refl, sym, subst, ap, ◌∙◌, arith}
-use Rattle.std.specs.List.{AllByRecursion as Each, AllZip as EachPair}
+use Rattle.std.proofs.Common.{◌≡◌, ℕ, true, List, [], ◌∷◌, ◌++◌, map, slice_get, refl, sym, subst, ap, ◌∙◌, arith}
+use Rattle.std.specs.List.{AllZip as EachPair}
+use Rattle.std.proofs.lemmas.Simd.{map-map}
 use Rattle.ring_words.specs.declared.page.WordName.TheVariants.{RightProd}
 use Rattle.vchan_protocol.specs.declared.op.Op.TheVariants.{Load}
 use Rattle.vchan_protocol.specs.declared.op.PastEvent.{PastEvent}
@@ -11,9 +12,8 @@ use Rattle.vchan_rule.specs.Seated.{SeatedEnd, SeatedSide, view}
 use Rattle.task_duties.specs.declared.place.PagePlace.{PagePlace}
 use Rattle.task_duties.specs.declared.place.PagePlace.TheVariants.{Control, Payload}
 use Rattle.task_duties.specs.declared.ends.DataEnd.{DataEnd}
-use Rattle.task_duties.specs.declared.ends.UnusedEnd.TheVariants.{Laid}
 use Rattle.task_duties.specs.TaskOwes.{all_ends, before_turned, places_in}
-use Rattle.task_duties.specs.GivenEnds.{all_given, fresh_view}
+use Rattle.task_duties.specs.GivenEnds.{all_given, fresh_view, given_at}
 use Rattle.task_duties.specs.Hostile.Given.{HostilePlan}
 use Rattle.ring_words.specs.declared.page.Role.TheVariants.{Server}
 use Rattle.task_duties.specs.Hostile.Stores.{role_at, orders_at}
@@ -27,6 +27,7 @@ use Rattle.hostile_task.specs.Plan.{plan_of, AreApart, IsControlOf, IsDataOf, Ar
 use Rattle.hostile_task.specs.Pages as pages
 use Rattle.hostile_task.specs.Pages.{IsTurnedOver, IsDataTurnedOver, IsLaid, given_of, given_in}
 use Rattle.hostile_task.specs.UnderWay.{words_at, IsPageSoFar, IsControl, IsPayload, IsUnderWay, IsTrailSoFar}
+use Rattle.hostile_task.proofs.ListLaws.{each_of_pairs, map_pairs}
 use Rattle.hostile_task.proofs.TrailLaws.{begins}
 use Rattle.hostile_task.proofs.WayLaws.{not_begun, with_control}
 
@@ -62,15 +63,12 @@ start_control domain plan e page end value own number orders over control same s
     order : (place : PagePlace) → place ≡ Control domain.number → orders_at plan place ≡ plan.control
     order place is = ap (λ (p : PagePlace). orders_at plan p) is
 
-laid_is : (a b : SeatedEnd) → Laid a ≡ Laid b → a ≡ b
-laid_is a b is = cc
-
 -- a data page
 start_payload : (domain : HostileDomain) (plan : HostilePlan) (own : ℕ) (d : DataEnd) (page : TurnedPage) → plan.domain ≡ domain.number → plan.payload ≡ domain.payload → IsDataTurnedOver d page → IsDataOf domain d → IsPageSoFar plan (first_progress own) page
 start_payload domain plan own d page number orders turned fits =
     let place = Payload d.from d.to d.port in
     let over = turned.over in
-    let same = laid_is turned.end fits.end (sym turned.laid ∙ fits.laid) in
+    let same : turned.end ≡ fits.end = let both = sym turned.laid ∙ fits.laid in cc in
     let role : role_at plan.domain page.place ≡ role_at domain.number place = λ i. role_at (number i) (over.place_is i) in
     let fits_role = ap (λ (s : SeatedEnd). s.side.role) same ∙ fits.role in
     record {
@@ -86,30 +84,12 @@ start_payload domain plan own d page number orders turned fits =
 -- ---- where the pages lie, and as they were given
 
 places_are : (ends : List DataEnd) (ps : List TurnedPage) → EachPair IsDataTurnedOver ends ps → map (λ p. p.place) ps ≡ places_in (all_given ends)
-places_are [] [] pairs = refl
-places_are [] (p ∷ ps) pairs = absurd pairs
-places_are (d ∷ ends) [] pairs = absurd pairs
-places_are (d ∷ ends) (p ∷ ps) pairs = λ i. pairs.0.over.place_is i ∷ places_are ends ps pairs.1 i
+places_are ends ps pairs =
+    map_pairs IsDataTurnedOver (λ d. (given_at d).place) (λ p. p.place) ends ps (λ d p turned. turned.over.place_is) pairs ∙ sym (map-map (λ e. e.place) given_at ends)
 
 given_are : (ends : List DataEnd) (ps : List TurnedPage) → EachPair IsDataTurnedOver ends ps → map given_of ps ≡ all_given ends
-given_are [] [] pairs = refl
-given_are [] (p ∷ ps) pairs = absurd pairs
-given_are (d ∷ ends) [] pairs = absurd pairs
-given_are (d ∷ ends) (p ∷ ps) pairs =
-    let same = ap view pairs.0.over.given_is ∙ sym (ap fresh_view pairs.0.laid) in
-    λ i. record { place = pairs.0.over.place_is i; view = same i } ∷ given_are ends ps pairs.1 i
-
-payloads : (ends : List DataEnd) (ps : List TurnedPage) → EachPair IsDataTurnedOver ends ps → Each (λ p. IsPayload p.place) ps
-payloads [] [] pairs = tt
-payloads [] (p ∷ ps) pairs = absurd pairs
-payloads (d ∷ ends) [] pairs = absurd pairs
-payloads (d ∷ ends) (p ∷ ps) pairs = (subst IsPayload (sym pairs.0.over.place_is) tt, payloads ends ps pairs.1)
-
-pages_so_far : (domain : HostileDomain) (plan : HostilePlan) (own : ℕ) (ends : List DataEnd) (ps : List TurnedPage) → plan.domain ≡ domain.number → plan.payload ≡ domain.payload → EachPair IsDataTurnedOver ends ps → AreDataOf domain ends → Each (IsPageSoFar plan (first_progress own)) ps
-pages_so_far domain plan own [] [] number orders pairs fits = tt
-pages_so_far domain plan own [] (p ∷ ps) number orders pairs fits = absurd pairs
-pages_so_far domain plan own (d ∷ ends) [] number orders pairs fits = absurd pairs
-pages_so_far domain plan own (d ∷ ends) (p ∷ ps) number orders pairs fits = (start_payload domain plan own d p number orders pairs.0 fits.0, pages_so_far domain plan own ends ps number orders pairs.1 fits.1)
+given_are ends ps pairs =
+    map_pairs IsDataTurnedOver given_at given_of ends ps (λ d p turned i. record { place = turned.over.place_is i; view = (ap view turned.over.given_is ∙ sym (ap fresh_view turned.laid)) i }) pairs
 
 -- ---- the whole task
 
@@ -131,19 +111,10 @@ start_way domain e ends ps end value own spelled control payload control_fits fi
       begun = not_begun (slice_get domain.acts 0) (first_progress own) spelled refl;
       nothing_said = λ _. refl;
       control = subst IsControl (sym control.place_is) tt;
-      payload = payloads ends ps.payload.items payload;
+      payload = each_of_pairs IsDataTurnedOver (IsDataOf domain) (λ p. IsPayload p.place) ends ps.payload.items (λ d p turned fits. subst IsPayload (sym turned.over.place_is) tt) payload fits;
       apart = subst (λ (places : List PagePlace). AreApart places) (sym (start_places domain e ends ps control payload)) (no_control domain.number ends, apart);
-      so_far = (start_control domain plan e ps.control end value own refl refl control control_fits same side index, pages_so_far domain plan own ends ps.payload.items refl refl payload fits);
+      so_far = (
+        start_control domain plan e ps.control end value own refl refl control control_fits same side index,
+        each_of_pairs IsDataTurnedOver (IsDataOf domain) (IsPageSoFar plan (first_progress own)) ends ps.payload.items (λ d p turned fits. start_payload domain plan own d p refl refl turned fits) payload fits,
+      );
     }
-
--- as many pages as data ends
-pub over_count : (ends : List DataEnd) (ps : List TurnedPage) → EachPair IsDataTurnedOver ends ps → length ps ≡ length ends
-over_count [] [] pairs = refl
-over_count [] (p ∷ ps) pairs = absurd pairs
-over_count (d ∷ ends) [] pairs = absurd pairs
-over_count (d ∷ ends) (p ∷ ps) pairs = omega (arith, over_count ends ps pairs.1)
-
--- the data ends of a domain are laid
-pub are_laid : (domain : HostileDomain) (ends : List DataEnd) → AreDataOf domain ends → Each IsLaid ends
-are_laid domain [] fits = tt
-are_laid domain (d ∷ ends) fits = ((fits.0.end, fits.0.laid), are_laid domain ends fits.1)

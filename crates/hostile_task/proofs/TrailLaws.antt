@@ -1,14 +1,15 @@
 -- The trails of the pages, act by act.
-use Rattle.std.proofs.Common.{◌≡◌, ℕ, ◌+◌, suc, zero, List, [], ◌∷◌, ◌++◌, Option, Some, None, take, slice_get, refl, sym, subst, ap, ◌∙◌, append_assoc, add-one}
+use Rattle.std.proofs.Common.{◌≡◌, ℕ, ◌+◌, List, [], ◌∷◌, ◌++◌, Option, Some, None, take, slice_get, refl, sym, subst, ap, ◌∙◌, append_assoc}
 use Rattle.std.specs.List.{flat_map}
 use Rattle.std.specs.Option.{option_and_then}
 use Rattle.std.proofs.lemmas.List.{append-nil}
 use Rattle.std.proofs.lemmas.Grind.{flat_map-append}
+use Rattle.list_laws.proofs.Places.{take_next}
 use Rattle.vchan_protocol.specs.declared.op.PastEvent.{PastEvent}
 use Rattle.vchan_protocol.specs.Table.Ends.{written_ring, prod_word}
 use Rattle.ring_words.specs.declared.page.Role.TheVariants.{Server}
 use Rattle.scenario_file.specs.declared.acts.Act.{Act}
-use Rattle.scenario_file.specs.declared.acts.Act.TheVariants.{Hello, Say, Trigger, Terminate, Poke, Scribble, Signal, Rest}
+use Rattle.scenario_file.specs.declared.acts.Act.TheVariants.{Hello}
 use Rattle.task_duties.specs.declared.place.PagePlace.{PagePlace}
 use Rattle.task_duties.specs.declared.place.PagePlace.TheVariants.{Control, Payload}
 use Rattle.task_duties.specs.Hostile.Given.{HostilePlan}
@@ -45,11 +46,6 @@ pub all_acts : (plan : HostilePlan) (place : PagePlace) (acts : List Act) (v aft
 all_acts plan place [] v after events done = done.0
 all_acts plan place (act ∷ acts) v after events done = (done.0, done.1, done.2, done.3, done.4, all_acts plan place acts done.2 after done.1 done.5)
 
-take_get : (acts : List Act) (n : ℕ) (act : Act) → slice_get acts n ≡ Some act → take (suc n) acts ≡ take n acts ++ act ∷ []
-take_get [] n act is = cc
-take_get (a ∷ acts) zero act is = let same : a ≡ act = cc in ap (λ (b : Act). b ∷ []) same
-take_get (a ∷ acts) (suc n) act is = ap (λ (others : List Act). a ∷ others) (take_get acts n act is)
-
 -- an act that has not begun
 pub begins : (words : Option (List ℕ)) (v : Voice) (p : Progress) → p.own ≡ v.own → p.turns ≡ 0 → p.said ≡ 0 → IsPart words v p []
 begins None v p own turns said = (refl, own)
@@ -69,7 +65,7 @@ control_done plan place act p next trail now part t at acts is one turns said = 
   orders = t.orders;
   acts =
       subst (λ (some : List Act). ActsDone plan place some (first_voice plan t.value) (voice_at t.voice next) (t.done ++ part))
-      (sym (ap (λ (n : ℕ). take n plan.acts) (one ∙ add-one p.acts) ∙ take_get plan.acts p.acts act at))
+      (sym (ap (λ (n : ℕ). take n plan.acts) one ∙ take_next plan.acts p.acts act at))
       (acts_push plan place (take p.acts plan.acts) act (first_voice plan t.value) t.voice (voice_at t.voice next) t.done part t.acts acts);
   under_way = begins (words_at plan next.acts) (voice_at t.voice next) next refl turns said;
   trail_is = is ∙ ap (λ (events : List PastEvent). loaded (prod_word (written_ring Server)) t.value ∷ events) (sym (append-nil (t.done ++ part)));
@@ -95,36 +91,33 @@ control_stores plan place act p next trail t at none one turns said own =
     (subst (λ (words : Option (List ℕ)). Acts plan place act words t.voice (voice_at t.voice next) stores) (sym none) (refl, same))
     (trail_more plan place p trail stores t ∙ ap (λ (first : List PastEvent). loaded (prod_word (written_ring Server)) t.value ∷ (t.done ++ (first ++ stores))) part.0) one turns said
 
--- an act that sends nothing goes on
-control_rests : (plan : HostilePlan) (place : PagePlace) (act : Act) (p next : Progress) (trail : List PastEvent) → IsControlTrail plan place p trail → slice_get plan.acts p.acts ≡ Some act → words_of act ≡ None
-    → next.acts ≡ p.acts → next.own ≡ p.own → IsControlTrail plan place next trail
-control_rests plan place act p next trail t at none same own =
-    let words : words_at plan p.acts ≡ None = words_here plan p.acts act at ∙ none in
-    let part = subst (λ (w : Option (List ℕ)). IsPart w t.voice p t.part) words t.under_way in
-    record {
-      value = t.value;
-      done = t.done;
-      part = t.part;
-      voice = t.voice;
-      orders = t.orders;
-      acts = subst (λ (n : ℕ). ActsDone plan place (take n plan.acts) (first_voice plan t.value) t.voice t.done) (sym same) t.acts;
-      under_way = subst (λ (w : Option (List ℕ)). IsPart w t.voice next t.part) (sym (ap (λ (n : ℕ). words_at plan n) same ∙ words)) (part.0, own ∙ part.1);
-      trail_is = t.trail_is;
-    }
-
--- saying goes on
-pub control_says : (plan : HostilePlan) (place : PagePlace) (act : Act) (bytes : List ℕ) (p next : Progress) (trail more : List PastEvent) (t : IsControlTrail plan place p trail) → slice_get plan.acts p.acts ≡ Some act → words_of act ≡ Some bytes
-    → next.acts ≡ p.acts → SaysSoFar t.voice bytes next (t.part ++ more) → IsControlTrail plan place next (trail ++ more)
-control_says plan place act bytes p next trail more t at words same says = record {
+-- an act goes on
+control_goes_on : (plan : HostilePlan) (place : PagePlace) (p next : Progress) (trail more : List PastEvent) (t : IsControlTrail plan place p trail) → next.acts ≡ p.acts → IsPart (words_at plan p.acts) t.voice next (t.part ++ more)
+    → IsControlTrail plan place next (trail ++ more)
+control_goes_on plan place p next trail more t same part = record {
   value = t.value;
   done = t.done;
   part = t.part ++ more;
   voice = t.voice;
   orders = t.orders;
   acts = subst (λ (n : ℕ). ActsDone plan place (take n plan.acts) (first_voice plan t.value) t.voice t.done) (sym same) t.acts;
-  under_way = subst (λ (w : Option (List ℕ)). IsPart w t.voice next (t.part ++ more)) (sym (ap (λ (n : ℕ). words_at plan n) same ∙ words_here plan p.acts act at ∙ words)) says;
+  under_way = subst (λ (n : ℕ). IsPart (words_at plan n) t.voice next (t.part ++ more)) (sym same) part;
   trail_is = trail_more plan place p trail more t;
 }
+
+-- an act that sends nothing
+control_rests : (plan : HostilePlan) (place : PagePlace) (act : Act) (p next : Progress) (trail : List PastEvent) → IsControlTrail plan place p trail → slice_get plan.acts p.acts ≡ Some act → words_of act ≡ None
+    → next.acts ≡ p.acts → next.own ≡ p.own → IsControlTrail plan place next (trail ++ [])
+control_rests plan place act p next trail t at none same own =
+    let words : words_at plan p.acts ≡ None = words_here plan p.acts act at ∙ none in
+    let part = subst (λ (w : Option (List ℕ)). IsPart w t.voice p t.part) words t.under_way in
+    control_goes_on plan place p next trail [] t same (subst (λ (w : Option (List ℕ)). IsPart w t.voice next (t.part ++ [])) (sym words) (append-nil t.part ∙ part.0, own ∙ part.1))
+
+-- saying goes on
+pub control_says : (plan : HostilePlan) (place : PagePlace) (act : Act) (bytes : List ℕ) (p next : Progress) (trail more : List PastEvent) (t : IsControlTrail plan place p trail) → slice_get plan.acts p.acts ≡ Some act → words_of act ≡ Some bytes
+    → next.acts ≡ p.acts → SaysSoFar t.voice bytes next (t.part ++ more) → IsControlTrail plan place next (trail ++ more)
+control_says plan place act bytes p next trail more t at words same says =
+    control_goes_on plan place p next trail more t same (subst (λ (w : Option (List ℕ)). IsPart w t.voice next (t.part ++ more)) (sym (words_here plan p.acts act at ∙ words)) says)
 
 -- saying is over
 pub control_said : (plan : HostilePlan) (place : PagePlace) (act : Act) (bytes : List ℕ) (p next : Progress) (trail more : List PastEvent) (t : IsControlTrail plan place p trail) → slice_get plan.acts p.acts ≡ Some act → words_of act ≡ Some bytes
@@ -149,7 +142,7 @@ payload_stores plan from to port act p next trail is at one =
     ap (λ (events : List PastEvent). events ++ stores act) is
     ∙ ap (λ (events : List PastEvent). flat_map stores (take p.acts plan.acts) ++ events) (sym (append-nil (stores act)))
     ∙ sym (flat_map-append stores (take p.acts plan.acts) (act ∷ []))
-    ∙ ap (λ (some : List Act). flat_map stores some) (sym (ap (λ (n : ℕ). take n plan.acts) (one ∙ add-one p.acts) ∙ take_get plan.acts p.acts act at))
+    ∙ ap (λ (some : List Act). flat_map stores some) (sym (ap (λ (n : ℕ). take n plan.acts) one ∙ take_next plan.acts p.acts act at))
 
 -- the trail of a page after some events
 pub page_with : (plan : HostilePlan) (p next : Progress) (page : TurnedPage) (events : List PastEvent) → IsPageSoFar plan p page → IsTrailSoFar plan page.place next (page.end.side.trail ++ events)
@@ -176,23 +169,17 @@ page_stores plan act p next page so_far at none one turns said own =
 
 -- an act that sends something stores nothing
 stores_words : (plan : HostilePlan) (place : PagePlace) (act : Act) (bytes : List ℕ) → words_of act ≡ Some bytes → stores_of plan place act ≡ []
-stores_words plan place Hello bytes is = refl
-stores_words plan place (Say said) bytes is = refl
-stores_words plan place (Trigger to service count) bytes is = refl
-stores_words plan place (Terminate domain port) bytes is = refl
-stores_words plan place (Poke page word value) bytes is = cc
-stores_words plan place (Scribble seed count) bytes is = cc
-stores_words plan place Signal bytes is = cc
-stores_words plan place (Rest turns) bytes is = cc
+stores_words plan place Hello bytes is = cc
+stores_words plan place _ bytes is = cc
 
 -- a data page while the domain sends something, or rests
 pub payload_stays : (plan : HostilePlan) (p next : Progress) (page : TurnedPage) → IsPayload page.place → IsPageSoFar plan p page → next.acts ≡ p.acts → IsPageSoFar plan next page
 payload_stays plan p next page payload so_far same =
-    page_with plan p next page [] so_far (subst (λ (t : List PastEvent). IsTrailSoFar plan page.place next t) (sym (append-nil page.end.side.trail)) (by_place page.place payload page.end.side.trail so_far.trail))
+    page_with plan p next page [] so_far (by_place page.place payload page.end.side.trail so_far.trail)
   where
-    by_place : (place : PagePlace) → IsPayload place → (trail : List PastEvent) → IsTrailSoFar plan place p trail → IsTrailSoFar plan place next trail
+    by_place : (place : PagePlace) → IsPayload place → (trail : List PastEvent) → IsTrailSoFar plan place p trail → IsTrailSoFar plan place next (trail ++ [])
     by_place (Control d) never trail is = absurd never
-    by_place (Payload from to port) tells trail is = is ∙ ap (λ (n : ℕ). flat_map (stores_of plan (Payload from to port)) (take n plan.acts)) (sym same)
+    by_place (Payload from to port) tells trail is = append-nil trail ∙ is ∙ ap (λ (n : ℕ). flat_map (stores_of plan (Payload from to port)) (take n plan.acts)) (sym same)
 
 pub payload_passes : (plan : HostilePlan) (act : Act) (bytes : List ℕ) (p next : Progress) (page : TurnedPage) → IsPayload page.place → IsPageSoFar plan p page → slice_get plan.acts p.acts ≡ Some act → words_of act ≡ Some bytes → next.acts ≡ p.acts + 1 → IsPageSoFar plan next page
 payload_passes plan act bytes p next page payload so_far at words one =
@@ -205,8 +192,8 @@ payload_passes plan act bytes p next page payload so_far at words one =
 -- a page while the domain rests
 pub page_rests : (plan : HostilePlan) (act : Act) (p next : Progress) (page : TurnedPage) → IsPageSoFar plan p page → slice_get plan.acts p.acts ≡ Some act → words_of act ≡ None → next.acts ≡ p.acts → next.own ≡ p.own → IsPageSoFar plan next page
 page_rests plan act p next page so_far at none same own =
-    page_with plan p next page [] so_far (subst (λ (t : List PastEvent). IsTrailSoFar plan page.place next t) (sym (append-nil page.end.side.trail)) (by_place page.place page.end.side.trail so_far.trail))
+    page_with plan p next page [] so_far (by_place page.place page.end.side.trail so_far.trail)
   where
-    by_place : (place : PagePlace) (trail : List PastEvent) → IsTrailSoFar plan place p trail → IsTrailSoFar plan place next trail
+    by_place : (place : PagePlace) (trail : List PastEvent) → IsTrailSoFar plan place p trail → IsTrailSoFar plan place next (trail ++ [])
     by_place (Control d) trail is = control_rests plan (Control d) act p next trail is at none same own
-    by_place (Payload from to port) trail is = is ∙ ap (λ (n : ℕ). flat_map (stores_of plan (Payload from to port)) (take n plan.acts)) (sym same)
+    by_place (Payload from to port) trail is = append-nil trail ∙ is ∙ ap (λ (n : ℕ). flat_map (stores_of plan (Payload from to port)) (take n plan.acts)) (sym same)

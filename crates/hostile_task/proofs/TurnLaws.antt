@@ -4,10 +4,11 @@ use Rattle.std.specs.Prelude.{All}
 use Rattle.std.specs.Option.{option_and_then}
 use Rattle.std.proofs.lemmas.Option.{get_or_from_slice_get, slice_get_within}
 use Rattle.std.specs.List.{AllByRecursion as Each, AllZip as EachPair}
+use Rattle.std.proofs.lemmas.List.{drop_all}
 use Rattle.vchan_protocol.specs.declared.op.PastEvent.{PastEvent}
 use Rattle.end_view.specs.EndView.{hostile_trail}
 use Rattle.scenario_file.specs.declared.acts.Act.{Act}
-use Rattle.scenario_file.specs.declared.acts.Act.TheVariants.{Hello, Say, Trigger, Terminate, Poke, Scribble, Signal, Rest}
+use Rattle.scenario_file.specs.declared.acts.Act.TheVariants.{Rest}
 use Rattle.scenario_file.specs.Acts.{ActFits, AreActs}
 use Rattle.task_duties.specs.TaskOwes.{IsSameEnd}
 use Rattle.task_duties.specs.Hostile.Given.{HostilePlan}
@@ -30,13 +31,7 @@ state_of domain pages p = record { plan = plan_of domain (places_in pages); ends
 
 -- none, where all acts are done
 pub none_left : (acts : List Act) (done turns : ℕ) → length acts ≤ done → turns_left acts done turns ≡ 0
-none_left acts done turns all = omega (arith, none acts done all)
-  where
-    none : (xs : List Act) (n : ℕ) → length xs ≤ n → all_turns (drop n xs) ≡ 0
-    none [] zero within = refl
-    none [] (suc n) within = refl
-    none (x ∷ xs) zero within = absurd (omega arith)
-    none (x ∷ xs) (suc n) within = none xs n (omega arith)
+none_left acts done turns all = omega (arith, ap all_turns (drop_all done acts all))
 
 -- those of the act under way and of the acts behind it
 next_turns : (acts : List Act) (n : ℕ) (act : Act) → slice_get acts n ≡ Some act → all_turns (drop n acts) ≡ most_turns act + all_turns (drop (n + 1) acts)
@@ -49,14 +44,8 @@ next_turns acts n act is = by_suc acts n is ∙ ap (λ (k : ℕ). most_turns act
 
 -- each act takes a turn at least
 pub some_turn : (act : Act) → ActFits act → 1 ≤ most_turns act
-some_turn Hello fits = omega arith
-some_turn (Say bytes) fits = omega arith
-some_turn (Trigger to service count) fits = omega arith
-some_turn (Terminate domain port) fits = omega arith
-some_turn (Poke page word value) fits = omega arith
-some_turn (Scribble seed count) fits = omega arith
-some_turn Signal fits = omega arith
 some_turn (Rest turns) fits = fits.0
+some_turn _ fits = omega arith
 
 -- an act that has begun has a turn left
 pub turn_is_left : (act : Act) (p : Progress) (spelled : List ℕ) → ActFits act → HasBegun (Some act) p spelled → p.turns < most_turns act

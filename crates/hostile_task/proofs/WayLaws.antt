@@ -1,11 +1,12 @@
 -- A turn of an act keeps what is known of all pages.
-use Rattle.std.proofs.Common.{◌≡◌, ℕ, ◌+◌, ◌<◌, Bool, true, false, List, [], ◌∷◌, ◌++◌, Option, Some, None, length, suc, zero, slice_get, slice_index_or, refl, sym, subst, ap, ◌∙◌, arith}
+use Rattle.std.proofs.Common.{◌≡◌, ℕ, ◌+◌, ◌<◌, Bool, true, false, List, ◌++◌, Option, Some, None, length, slice_get, slice_index_or, refl, sym, subst, ap, ◌∙◌, arith}
 use Rattle.std.specs.List.{AllByRecursion as Each}
+use Rattle.std.proofs.lemmas.Option.{slice_get-get_or}
 use Rattle.list_laws.proofs.Each.{each_mapped, each_weaker, each_with}
 use Rattle.vchan_protocol.specs.declared.op.PastEvent.{PastEvent}
 use Rattle.vchan_rule.specs.Seated.{SeatedSide}
 use Rattle.scenario_file.specs.declared.acts.Act.{Act}
-use Rattle.scenario_file.specs.declared.acts.Act.TheVariants.{Hello, Say, Trigger, Terminate, Poke, Scribble, Signal, Rest}
+use Rattle.scenario_file.specs.declared.acts.Act.TheVariants.{Hello, Poke, Scribble, Signal, Rest}
 use Rattle.scenario_file.specs.declared.acts.ActPage.{ActPage}
 use Rattle.ring_words.specs.declared.page.WordName.{WordName}
 use Rattle.task_duties.specs.declared.place.PagePlace.{PagePlace}
@@ -91,14 +92,8 @@ control_trail_is plan p (Control d) trail tells is = is
 control_trail_is plan p (Payload from to port) trail never is = absurd never
 
 most_turns_words : (act : Act) (bytes : List ℕ) → words_of act ≡ Some bytes → most_turns act ≡ 1024
-most_turns_words Hello bytes is = refl
-most_turns_words (Say said) bytes is = refl
-most_turns_words (Trigger to service count) bytes is = refl
-most_turns_words (Terminate domain port) bytes is = refl
-most_turns_words (Poke page word value) bytes is = cc
-most_turns_words (Scribble seed count) bytes is = cc
-most_turns_words Signal bytes is = cc
-most_turns_words (Rest turns) bytes is = cc
+most_turns_words Hello bytes is = cc
+most_turns_words _ bytes is = cc
 
 -- the pages once the end of the control page is this one
 abbrev pub with_control : Pages → SeatedSide → Pages
@@ -185,23 +180,15 @@ way_says domain act bytes pages end p mid over before spelled way at within word
 
 -- ---- the act under way
 
-get_at : (acts : List Act) (n : ℕ) (d : Act) → n < length acts → slice_get acts n ≡ Some (slice_index_or acts n d)
-get_at [] n d within = absurd (omega arith)
-get_at (act ∷ acts) zero d within = refl
-get_at (act ∷ acts) (suc n) d within = get_at acts n d (omega arith)
-
 pub act_at : (acts list : List Act) (n : ℕ) (result act : Act) → list ≡ acts → n < length acts → result ≡ slice_index_or list n result → result ≡ act → slice_get acts n ≡ Some act
 act_at acts list n result act same within is act_is =
-    get_at acts n result within ∙ ap (λ (a : Act). Some a) (ap (λ (others : List Act). slice_index_or others n result) (sym same) ∙ sym is ∙ act_is)
+    slice_get-get_or acts n result within ∙ ap (λ (a : Act). Some a) (ap (λ (others : List Act). slice_index_or others n result) (sym same) ∙ sym is ∙ act_is)
 
 -- an act that is none of these sends something
 pub says_some : (act : Act) → ((page : ActPage) (word : WordName) (value : ℕ) → act ≡ Poke page word value → ⊥) → ((seed count : ℕ) → act ≡ Scribble seed count → ⊥) → (act ≡ Signal → ⊥) → ((turns : ℕ) → act ≡ Rest turns → ⊥)
     → (bytes : List ℕ) × (words_of act ≡ Some bytes)
-says_some Hello poke scribble signal rest = (_, refl)
-says_some (Say bytes) poke scribble signal rest = (_, refl)
-says_some (Trigger to service count) poke scribble signal rest = (_, refl)
-says_some (Terminate domain port) poke scribble signal rest = (_, refl)
 says_some (Poke page word value) poke scribble signal rest = absurd (poke page word value refl)
 says_some (Scribble seed count) poke scribble signal rest = absurd (scribble seed count refl)
 says_some Signal poke scribble signal rest = absurd (signal refl)
 says_some (Rest turns) poke scribble signal rest = absurd (rest turns refl)
+says_some _ poke scribble signal rest = (_, refl)

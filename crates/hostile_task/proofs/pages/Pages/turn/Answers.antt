@@ -1,7 +1,6 @@
 -- Each end that is turned over is the next of those given.
-use Rattle.std.proofs.Common.{◌≡◌, List, [], ◌∷◌, ◌++◌, subst, sym}
+use Rattle.std.proofs.Common.{◌≡◌, List, [], ◌∷◌, ◌++◌, subst, sym, arith}
 use Rattle.std.proofs.lemmas.Grind.{common_steps}
-use Rattle.std.proofs.Common.{arith}
 use Rattle.std.specs.List.{AllZip as EachPair, AllByRecursion as Each}
 use Rattle.list_laws.proofs.Results.{no_items}
 use Rattle.list_laws.proofs.Pairs.{pairs_push}
