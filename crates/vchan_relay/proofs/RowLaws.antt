@@ -22,9 +22,8 @@ use Rattle.vchan_lifecycle.specs.Ended.{IsEndOf}
 
 pub laid_more : (words : PageStart) (pages : List PageView) (seats : List PageSeats) (page : PageView) (seat : PageSeats) → AreLaid words pages seats → IsLaid words page seat → AreLaid words (pages ++ page ∷ []) (seats ++ seat ∷ [])
 laid_more words [] [] page seat laid is = (is, tt)
-laid_more words [] (first ∷ seats) page seat laid is = absurd laid
-laid_more words (first ∷ pages) [] page seat laid is = absurd laid
 laid_more words (first ∷ pages) (other ∷ seats) page seat laid is = (laid.0, laid_more words pages seats page seat laid.1 is)
+laid_more words _ _ page seat laid is = absurd laid
 
 -- ---- dealing
 

@@ -23,33 +23,27 @@ use Rattle.vchan_lifecycle.specs.Ended.{IsEndOf, SendsAll, GetsAll, HasEnded}
 -- ---- from the tasks to what they returned
 
 follow_back : (room : ℕ) (before : TableId) (pages : List PageView) (tasks : List HopTask) (dones : List HopDone) → FollowOn room before pages tasks → AllZip hop_owes tasks dones → FollowBack room before pages dones
-follow_back room before [] [] dones follow paid = absurd follow
 follow_back room before [] (task ∷ []) [] follow paid = absurd paid
 follow_back room before [] (task ∷ []) (done ∷ []) follow paid = follow done paid.0
 follow_back room before [] (task ∷ []) (done ∷ more ∷ dones) follow paid = absurd paid.1
-follow_back room before [] (task ∷ more ∷ tasks) dones follow paid = absurd follow
-follow_back room before (page ∷ pages) [] dones follow paid = absurd follow
 follow_back room before (page ∷ pages) (task ∷ tasks) [] follow paid = absurd paid
 follow_back room before (page ∷ pages) (task ∷ tasks) (done ∷ dones) follow paid = (follow.0 done paid.0, follow_back room page.table pages tasks dones follow.1 paid.1)
+follow_back room before _ _ dones follow paid = absurd follow
 
 pub handed_back : (bytes : List ℕ) (room : ℕ) (pages : List PageView) (tasks : List HopTask) (dones : List HopDone) → AreTasks bytes room pages tasks → AllZip hop_owes tasks dones → AreHandedBack bytes room pages dones
-handed_back bytes room [] tasks dones are paid = absurd are
-handed_back bytes room (page ∷ pages) [] dones are paid = absurd are
 handed_back bytes room (page ∷ pages) (task ∷ tasks) [] are paid = absurd paid
 handed_back bytes room (page ∷ pages) (task ∷ tasks) (done ∷ dones) are paid = (are.0 done paid.0, follow_back room page.table pages tasks dones are.1 paid.1)
+handed_back bytes room _ _ dones are paid = absurd are
 
 follow_count : (room : ℕ) (before : TableId) (pages : List PageView) (tasks : List HopTask) → FollowOn room before pages tasks → length tasks ≡ length pages + 1
-follow_count room before [] [] follow = absurd follow
 follow_count room before [] (task ∷ []) follow = refl
-follow_count room before [] (task ∷ more ∷ tasks) follow = absurd follow
-follow_count room before (page ∷ pages) [] follow = absurd follow
 follow_count room before (page ∷ pages) (task ∷ tasks) follow = let rest = follow_count room page.table pages tasks follow.1 in omega (arith, rest)
+follow_count room before _ _ follow = absurd follow
 
 -- there is one task more than there are pages
 pub count_tasks : (bytes : List ℕ) (room : ℕ) (pages : List PageView) (tasks : List HopTask) → AreTasks bytes room pages tasks → length tasks ≡ length pages + 1
-count_tasks bytes room [] tasks are = absurd are
-count_tasks bytes room (page ∷ pages) [] are = absurd are
 count_tasks bytes room (page ∷ pages) (task ∷ tasks) are = let rest = follow_count room page.table pages tasks are.1 in omega (arith, rest)
+count_tasks bytes room _ _ are = absurd are
 
 -- ---- from what they returned to the settled pages
 
@@ -137,15 +131,14 @@ through words room got page (next ∷ pages) honest behind few =
 
 settled_length : (pages : List PageView) (client : SeatedSide) (dones : List HopDone) (settled : List Settled) (joints : List JoinedEnds) (got : List ℕ) (room : ℕ) (page : PageView) → FollowBack room page.table pages dones →
     AreSettledBy (page ∷ pages) client dones settled joints got → length settled ≡ length pages + 1
-settled_length pages client [] settled joints got room page follow by = absurd by
-settled_length pages client (done ∷ dones) [] joints got room page follow by = absurd by
-settled_length pages client (Wrote end ∷ dones) (s ∷ settled) joints got room page follow by = absurd by
 settled_length [] client (Read end bytes ∷ dones) (s ∷ settled) joints got room page follow by = let none = ap length by.1 in omega (arith, none)
 settled_length (next ∷ pages) client (Read end bytes ∷ dones) (s ∷ settled) joints got room page follow by = absurd follow.0
 settled_length [] client (Passed near far joint ∷ dones) (s ∷ settled) joints got room page follow by = absurd by.1.2
 settled_length (next ∷ pages) client (Passed near far joint ∷ dones) (s ∷ settled) joints got room page follow by =
     let later = settled_length pages far dones settled by.1.0 got room next follow.1 by.1.2 in
     omega (arith, later)
+settled_length pages client (Wrote end ∷ dones) (s ∷ settled) joints got room page follow by = absurd by
+settled_length pages client _ _ joints got room page follow by = absurd by
 
 words_of_laid : (words : PageStart) (pages : List PageView) (seats : List PageSeats) → AreLaid words pages seats → Each (λ (p : PageView). words_of p ≡ words) pages
 words_of_laid words [] seats laid = tt
@@ -170,12 +163,9 @@ relayed hops words bytes pages seats dones r laid count handed by = whole hops w
         AreHandedBack bytes (length bytes + 1) pages dones → AreAllSettledBy pages dones settled joints got → HasRelayed hops words bytes (record { got = got; pages = settled; joints = joints })
     whole hops words bytes [] dones settled joints got laid count handed by = absurd handed
     whole hops words bytes (page ∷ pages) [] settled joints got laid count handed by = absurd handed
-    whole hops words bytes (page ∷ pages) (Passed near far joint ∷ dones) settled joints got laid count handed by = absurd by
-    whole hops words bytes (page ∷ pages) (Read end read ∷ dones) settled joints got laid count handed by = absurd by
-    whole hops words bytes (page ∷ pages) (Wrote client ∷ []) settled joints got laid count handed by = absurd by
-    whole hops words bytes (page ∷ pages) (Wrote client ∷ done ∷ dones) [] joints got laid count handed by = absurd by
     whole hops words bytes (page ∷ pages) (Wrote client ∷ done ∷ dones) (s ∷ settled) joints got laid count handed by =
         let first = begins words (length bytes + 1) page pages client done dones s settled joints got laid.0 laid.1 handed.0.0 handed.1 by in
         let all = all_through words bytes got client s settled joints handed.0.1 first in
         let many = settled_length pages client (done ∷ dones) (s ∷ settled) joints got (length bytes + 1) page handed.1 by in
         record { got = all.0; count = omega (arith, many, count); each = all.1; joined = first.joined }
+    whole hops words bytes (page ∷ pages) _ _ joints got laid count handed by = absurd by

@@ -1,7 +1,6 @@
 -- The tasks of a run may go from thread to thread: what a relay and each task consists of may.
-use denote.Param.Send.{IsSend, AllSend, sendable, view_send, recorded_send, struct_send}
-use denote.Param.SendFields.{FieldsHave, declared_send, variants_send}
-use denote.Struct.Declared.{shape}
+use denote.Param.Send.{IsSend, sendable, view_send}
+use denote.Param.SendFields.{declared_send, variants_send}
 use Rattle.std.proofs.Crossing.{crosses}
 use Rattle.vchan_rule.proofs.Sent.{end_send}
 use Rattle.vchan_relay.specs.contracts.relay.Relay as relay
@@ -23,28 +22,19 @@ use Rattle.std.below.core.proofs.snapshot.Sent.{snapshot_send}
 
 relay_send : (κ : _) → IsSend (relay.the_row κ)
 relay_send κ =
-    let fields : AllSend (shape (relay_inside.the_type κ)).fields = (end_send κ, (end_send κ, (search (sendable, crosses), (search sendable, (search sendable, (search sendable, tt)))))) in
-    view_send (relay_inside.the_row κ) _ _ _ _ (recorded_send (relay_inside.the_field κ).row _ _ (relay_inside.the_type κ).to_one (struct_send (shape (relay_inside.the_type κ)) fields))
+    view_send (relay_inside.the_row κ) _ _ _ _ (declared_send (relay_inside.the_type κ) (end_send κ, (end_send κ, (search (sendable, crosses), (search sendable, (search sendable, (search sendable, tt)))))))
 
 writer_send : (κ : _) → IsSend (writer.the_row κ)
-writer_send κ =
-    let fields : AllSend (shape (writer_inside.the_type κ)).fields = (end_send κ, (search (sendable, crosses), (search sendable, (search sendable, tt)))) in
-    view_send (writer_inside.the_row κ) _ _ _ _ (recorded_send (writer_inside.the_field κ).row _ _ (writer_inside.the_type κ).to_one (struct_send (shape (writer_inside.the_type κ)) fields))
+writer_send κ = view_send (writer_inside.the_row κ) _ _ _ _ (declared_send (writer_inside.the_type κ) (end_send κ, (search (sendable, crosses), (search sendable, (search sendable, tt)))))
 
 hop_send : (κ : _) → IsSend (hop.the_row κ)
-hop_send κ =
-    let fields : AllSend (shape (hop_inside.the_type κ)).fields = (relay_send κ, (search sendable, tt)) in
-    view_send (hop_inside.the_row κ) _ _ _ _ (recorded_send (hop_inside.the_field κ).row _ _ (hop_inside.the_type κ).to_one (struct_send (shape (hop_inside.the_type κ)) fields))
+hop_send κ = view_send (hop_inside.the_row κ) _ _ _ _ (declared_send (hop_inside.the_type κ) (relay_send κ, (search sendable, tt)))
 
 reader_send : (κ : _) → IsSend (reader.the_row κ)
-reader_send κ =
-    let fields : AllSend (shape (reader_inside.the_type κ)).fields = (end_send κ, (search (sendable, crosses), (search sendable, (search sendable, tt)))) in
-    view_send (reader_inside.the_row κ) _ _ _ _ (recorded_send (reader_inside.the_field κ).row _ _ (reader_inside.the_type κ).to_one (struct_send (shape (reader_inside.the_type κ)) fields))
+reader_send κ = view_send (reader_inside.the_row κ) _ _ _ _ (declared_send (reader_inside.the_type κ) (end_send κ, (search (sendable, crosses), (search sendable, (search sendable, tt)))))
 
 joint_send : IsSend joint.the_row
-joint_send =
-    let fields : FieldsHave IsSend joint_inside.the_type.parts = (snapshot_send retired_end.the_row, (snapshot_send retired_end.the_row, tt)) in
-    view_send joint_inside.the_row _ _ _ _ (declared_send joint_inside.the_type fields)
+joint_send = view_send joint_inside.the_row _ _ _ _ (declared_send joint_inside.the_type (snapshot_send retired_end.the_row, (snapshot_send retired_end.the_row, tt)))
 
 pub done_send : IsSend done.the_row
 done_send = variants_send done.enum ((retired.the_send, tt), ((retired.the_send, (retired.the_send, (search (sendable, crosses, joint_send) depth 20, tt))), ((retired.the_send, (bytes.the_send, tt)), tt)))

@@ -7,7 +7,8 @@ use Rattle.vchan_relay.specs.declared.lay.PageSeats.{PageSeats}
 use Rattle.vchan_relay.specs.declared.task.HopTask.{HopTask}
 use Rattle.vchan_relay.specs.Laying.{AreLaid}
 use Rattle.vchan_relay.specs.Owes.{AreTasks, FollowOn}
-use Rattle.vchan_relay.proofs.RowLaws.{is_next, none_left, first_task, next_task, last_task}
+use Rattle.vchan_relay.proofs.RowLaws.{IsNext, is_next, none_left, first_task, next_task, last_task}
+use Rattle.vchan_relay.proofs.deal.deal.Goals.{After-index-pages-index}
 use Rattle.vchan_relay.proofs.deal.deal.Goals as goal
 
 pub unreachable-requires : goal.unreachable-requires
@@ -36,34 +37,30 @@ loop-next-init c =
           (first_task bytes (length bytes + 1) page (drop 1 pages) c.served-near.result.page c.writer_task.result tasks is c.writer_task.ensures h.2 more follow);
     }
 
+-- the page at the index, whose seats come next
+next_page : (c : After-index-pages-index) → IsNext c.loop-next.invariant.laid.0 c.args.pages.now c.loop-next.index c.index-pages-index.result c.in-Some-next.next c.next-in-loop-next.new.self.rest.items
+next_page c = is_next c.loop-next.invariant.laid.0 c.args.pages.now c.loop-next.index c.index-pages-index.result _ _ c.loop-next.next-iterator.rest.items c.loop-next.invariant.laid.1 c.in-Some-next.ensures.steps.0 c.index-pages-index.is
+
 pub served-near-requires-in-loop-next : goal.served-near-requires-in-loop-next
-served-near-requires-in-loop-next c =
-    let left = c.loop-next.invariant.laid in
-    let n = is_next left.0 c.args.pages.now c.loop-next.index c.index-pages-index.result c.in-Some-next.next c.next-in-loop-next.new.self.rest.items c.loop-next.next-iterator.rest.items left.1 c.in-Some-next.ensures.steps.0 c.index-pages-index.is in
-    n.laid.server
+served-near-requires-in-loop-next c = (next_page (goal.at.served-near-requires-in-loop-next c).After-index-pages-index).laid.server
 
 pub overflow_add-index : goal.overflow_add-index
-overflow_add-index c =
-    let left = c.loop-next.invariant.laid in
-    let n = is_next left.0 c.args.pages.now c.loop-next.index c.index-pages-index.result c.in-Some-next.next c.next-in-loop-next.new.self.rest.items c.loop-next.next-iterator.rest.items left.1 c.in-Some-next.ensures.steps.0 c.index-pages-index.is in
-    omega (arith, n.within)
+overflow_add-index c = omega (arith, (next_page (goal.at.overflow_add-index c).After-index-pages-index).within)
 
 pub loop-next-preserved : goal.loop-next-preserved
 loop-next-preserved c =
-    let left = c.loop-next.invariant.laid in
     let pages = c.args.pages.now in
-    let index = c.loop-next.index in
     let page = c.index-pages-index.result in
     let bytes = c.args.bytes.items in
     let before = c.loop-next.near.page in
-    let n = is_next left.0 pages index page c.in-Some-next.next c.next-in-loop-next.new.self.rest.items c.loop-next.next-iterator.rest.items left.1 c.in-Some-next.ensures.steps.0 c.index-pages-index.is in
+    let n = next_page (goal.at.loop-next-preserved c).After-index-pages-index in
     let h = c.served-near-in-loop-next.ensures in
     record {
       can_next = tt;
       is_finite = tt;
-      laid = (left.0, n.rest);
+      laid = (c.loop-next.invariant.laid.0, n.rest);
       near = (h.0, h.1, h.3);
-      goes_on = next_task bytes (length bytes + 1) pages before c.served-near-in-loop-next.result.page page (drop (index + 1) pages) c.in_ok-relay_task.field-0 c.loop-next.tasks.items c.push-in-loop-next.new.self.items
+      goes_on = next_task bytes (length bytes + 1) pages before c.served-near-in-loop-next.result.page page (drop (c.loop-next.index + 1) pages) c.in_ok-relay_task.field-0 c.loop-next.tasks.items c.push-in-loop-next.new.self.items
           (λ more follow. c.loop-next.invariant.goes_on more (subst (λ (ps : List PageView). FollowOn (length bytes + 1) before ps more) (sym n.cut) follow))
           c.in_ok-push-2.ensures.items c.in_ok-relay_task.ensures h.2;
     }

@@ -1,7 +1,6 @@
 use Rattle.std.proofs.Common.{◌≡◌, ◌+◌, ◌++◌, [], List, length, drop}
-use Rattle.vchan_rule.specs.Seated.{PageStart}
+use Rattle.vchan_rule.specs.Seated.{PageStart, view, IsOpen}
 use Rattle.ring_words.specs.declared.page.Role.TheVariants.{Server}
-use Rattle.vchan_rule.specs.Seated.{view, IsOpen}
 use Rattle.vchan_relay.specs.declared.task.HopTask.{HopTask}
 use Rattle.vchan_relay.specs.Laying.{AreLaid}
 use Rattle.vchan_relay.specs.Owes.{AreTasks, FollowOn}
