@@ -25,9 +25,6 @@ use Rattle.scenario_file.specs.Scenario.{Plan as Scenario}
 use Rattle.run_pages.specs.Pages.{PageAt, new_end, end_on, new_ends}
 use Rattle.run_pages.specs.Dealt.{hand_ends, HandsDealt, ControlsDealt, AreDealt, AddsHand, FitsDomain, Gives, HasOrders, HaveOrders}
 
-same_test : (a b : ℕ) → a ≡ b → (a == b) ≡ true
-same_test a b e = eq-eqb a b e
-
 -- a data end comes into the hand at a place
 pub gives_set : (old : List Hand) (number : ℕ) (h h' : Hand) (end : DataEnd) → 1 ≤ number → slice_get old (number - 1) ≡ Some h
     → h'.control ≡ h.control → h'.payload.items ≡ h.payload.items ++ end ∷ [] → Gives number (given_at end) old (set old (number - 1) h')
@@ -48,7 +45,7 @@ gives_set old number h h' end some at control payload = record { count = length-
           h,
           subst (λ j. slice_get old j ≡ Some h) (sym e.0) at,
           subst (λ x. hand_ends (k + 1) x ≡ hand_ends (k + 1) h ++ (if k + 1 == number then given_at end ∷ [] else [])) e.1
-              (rw (same_test (k + 1) number (omega (arith, e.0, some))) (ends_of (k + 1))),
+              (rw (eq-eqb (k + 1) number (omega (arith, e.0, some))) (ends_of (k + 1))),
         )
         by (inr e) = (hand, e.1, rw (ne_eqb (k + 1) number (λ s. e.0 (omega (arith, s)))) (sym (append-nil (hand_ends (k + 1) hand))))
 
@@ -98,10 +95,10 @@ ends_more pages p number = filter_map-append (end_on number) pages (p ∷ [])
 
 -- the server's end is that of the server's domain, and the client's end that of the client's domain
 pub ends_server : (p : PageAt) (number : ℕ) → server_of p.place ≡ number → new_ends (p ∷ []) number ≡ new_end p Server ∷ []
-ends_server p number e = rw (same_test (server_of p.place) number e) refl
+ends_server p number e = rw (eq-eqb (server_of p.place) number e) refl
 
 pub ends_client : (p : PageAt) (number : ℕ) → server_of p.place ≢ number → client_of p.place ≡ number → new_ends (p ∷ []) number ≡ new_end p Client ∷ []
-ends_client p number n e = rw (ne_eqb (server_of p.place) number n) (rw (same_test (client_of p.place) number e) refl)
+ends_client p number n e = rw (ne_eqb (server_of p.place) number n) (rw (eq-eqb (client_of p.place) number e) refl)
 
 pub ends_none : (p : PageAt) (number : ℕ) → server_of p.place ≢ number → client_of p.place ≢ number → new_ends (p ∷ []) number ≡ []
 ends_none p number n m = rw (ne_eqb (server_of p.place) number n) (rw (ne_eqb (client_of p.place) number m) refl)

@@ -1,6 +1,7 @@
 -- Dealing all pages, one after another.
-use Rattle.std.proofs.Common.{◌≡◌, ℕ, suc, ◌+◌, ◌<◌, List, [], ◌∷◌, ◌++◌, length, map, refl, ap, sym, ◌∙◌, subst, arith, zero, take, drop, get_or}
-use Rattle.std.proofs.lemmas.List.{take_more}
+use Rattle.std.proofs.Common.{◌≡◌, ℕ, suc, ◌+◌, ◌<◌, List, [], ◌∷◌, ◌++◌, length, map, refl, ap, sym, ◌∙◌, subst, arith, zero, add-one, take, drop, get_or}
+use Rattle.std.proofs.lemmas.List.{append-nil, take-append-drop, take_more}
+use Rattle.std.proofs.Math.Seq.{drop-cons, drop-nil}
 use Rattle.std.proofs.lemmas.Option.{none-some}
 use Rattle.vchan_rule.specs.Seated.{SeatedEnd}
 use Rattle.task_duties.specs.declared.place.PagePlace.{PagePlace}
@@ -39,25 +40,12 @@ dealing_on before left p x seats controls controls' hands hands' all d dealt cou
 -- ---- where the next page stands
 
 pub within_seats : (pages : List PageAt) (k : ℕ) (x : PageSeats) (seats : List PageSeats) → HasSeats (drop k pages) (x ∷ seats) → k < length pages
-within_seats [] k x seats h = absurd (none k h)
-  where
-    none : (k : ℕ) → HasSeats (drop k []) (x ∷ seats) → ⊥
-    none zero h = h
-    none (suc k) h = h
+within_seats [] k x seats h = absurd (subst (λ l. HasSeats l (x ∷ seats)) (drop-nil k) h)
 within_seats (p ∷ pages) zero x seats h = omega arith
 within_seats (p ∷ pages) (suc k) x seats h = omega (arith, within_seats pages k x seats h)
 
 pub drop_next : (pages : List PageAt) (k : ℕ) (p : PageAt) → k < length pages → get_or pages k p ≡ p → drop k pages ≡ p ∷ drop (k + 1) pages
-drop_next [] k p w g = absurd (omega (arith, w))
-drop_next (q ∷ pages) zero p w g = ap (λ x. x ∷ pages) g
-drop_next (q ∷ pages) (suc k) p w g =
-    let up : suc (k + 1) ≡ suc k + 1 = omega arith in
-    subst (λ n. drop k pages ≡ p ∷ drop n (q ∷ pages)) up (drop_next pages k p (omega (arith, w)) g)
-
-pub get_map : {A B : Type 0} (f : A → B) (xs : List A) (k : ℕ) (x : A) → get_or (map f xs) k (f x) ≡ f (get_or xs k x)
-get_map f [] k x = refl
-get_map f (y ∷ xs) zero x = refl
-get_map f (y ∷ xs) (suc k) x = get_map f xs k x
+drop_next pages k p w g = drop-cons pages k p w ∙ (λ i. g i ∷ drop (sym (add-one k) i) pages)
 
 -- what is known before the next page is dealt
 pub record IsNext (pages : List PageAt) (k : ℕ) (p : PageAt) (x : PageSeats) (seats : List PageSeats) (controls : List SeatedEnd) (hands : List Hand) (all : ℕ) : Type 0 where
@@ -81,10 +69,7 @@ all_dealt before [] controls hands all d = (d.dealt, refl, omega (arith, d.count
 all_dealt before (p ∷ left) controls hands all d = absurd d.seated
 
 pub take_all : (pages : List PageAt) (k : ℕ) → drop k pages ≡ [] → take k pages ≡ pages
-take_all [] zero e = refl
-take_all [] (suc k) e = refl
-take_all (p ∷ pages) zero e = sym e
-take_all (p ∷ pages) (suc k) e = ap (λ l. p ∷ l) (take_all pages k e)
+take_all pages k e = sym (append-nil (take k pages)) ∙ ap (λ l. take k pages ++ l) (sym e) ∙ take-append-drop k pages
 
 -- nothing is dealt yet
 pub none_dealt : (s : Scenario) (pages : List PageAt) (seats : List PageSeats) → AreLaid s pages → HasSeats pages seats → IsDealing [] pages seats [] [] (length s.domains)

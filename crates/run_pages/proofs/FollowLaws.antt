@@ -9,6 +9,7 @@ use Rattle.scenario_file.specs.Scenario.{Plan as Scenario}
 use Rattle.task_duties.specs.declared.place.PagePlace.{PagePlace}
 use Rattle.task_duties.specs.declared.place.PagePlace.TheVariants.{Control, Payload}
 use Rattle.task_duties.specs.Places.{numbers}
+use Rattle.task_duties.proofs.Places.{length_numbers}
 use Rattle.run_laws.specs.Laid.{all_domains, pages_between, ports_between, laid_between, laid}
 use Rattle.run_pages.specs.Dealt.{Follows, controls_in}
 
@@ -79,17 +80,13 @@ none_made : (made : ℕ → List PagePlace) (xs : List ℕ) → ((x : ℕ) → c
 none_made made [] none = refl
 none_made made (x ∷ xs) none = controls_append (made x) (flat_map made xs) ∙ omega (arith, none x, none_made made xs none)
 
-length_numbers : (from k : ℕ) → length (numbers from 1 k) ≡ k
-length_numbers from zero = refl
-length_numbers from (suc k) = ap suc (length_numbers (from + 1) k)
-
 pub controls_laid : (s : Scenario) → controls_in (laid s) ≡ length s.domains
 controls_laid s =
     controls_append (map Control (all_domains s)) payload
     ∙ omega (
       arith,
       all_controls (all_domains s),
-      length_numbers 1 (length s.domains),
+      length_numbers 1 1 (length s.domains),
       none_made (λ from. flat_map (laid_between s from) (all_domains s)) (all_domains s) (λ from. none_made (laid_between s from) (all_domains s) (λ to. no_controls from to (ports_between s from to))),
     )
   where

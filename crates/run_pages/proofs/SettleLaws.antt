@@ -1,13 +1,12 @@
 -- Taking the last ends of two tasks, and settling their page.
-use Rattle.std.proofs.Common.{◌≡◌, ◌≢◌, ◌⊎◌, inl, inr, ℕ, zero, suc, ◌≤◌, get_or, ◌+◌, ◌<◌, List, [], ◌∷◌, ◌++◌, length, map, set, refl, ap, sym, ◌∙◌, subst, arith, append_assoc, reverse, length-append, length-set, Some, None}
+use Rattle.std.proofs.Common.{◌≡◌, ◌≢◌, ◌⊎◌, inl, inr, ℕ, ◌≤◌, get_or, ◌+◌, ◌<◌, List, [], ◌∷◌, ◌++◌, length, map, set, refl, ap, sym, ◌∙◌, subst, arith, append_assoc, reverse, length-append, length-set, Some, None}
 use Rattle.std.specs.Prelude.{◌==◌, true, false, Contains, slice_get, option_map, if◌then◌else◌}
-use Rattle.std.proofs.lemmas.List.{append-nil, map-append, reverse-append, length-map}
+use Rattle.std.proofs.lemmas.List.{append-nil, map-append, map-set, reverse-append, length-map}
 use Rattle.std.proofs.lemmas.List.Elements.{Contains-append_left, Contains-append_right}
 use Rattle.std.proofs.lemmas.Option.{get_or_from_slice_get, slice_get-map, slice_get_cases, slice_get_within}
 use Rattle.std.proofs.lemmas.Bool.{eq-eqb, ne_eqb}
-use Rattle.task_duties.specs.TaskOwes.{EndAt}
+use Rattle.task_duties.specs.TaskOwes.{EndAt, IsSameEnd}
 use Rattle.ring_words.specs.declared.page.Role.{Role}
-use Rattle.task_duties.specs.TaskOwes.{IsSameEnd}
 use Rattle.task_duties.specs.declared.place.PagePlace.{PagePlace}
 use Rattle.task_duties.specs.declared.place.PagePlace.TheVariants.{Control, Payload}
 use Rattle.ring_words.specs.declared.page.Role.TheVariants.{Server, Client}
@@ -25,11 +24,6 @@ use Rattle.scenario_file.specs.Scenario.{Plan as Scenario}
 use Rattle.run_laws.specs.Report.{SettledPage}
 use Rattle.run_pages.proofs.DealLaws.{ends_client, ends_more, ends_none, ends_server}
 use Rattle.run_pages.proofs.FollowLaws.{controls_append, controls_laid, laid_follows}
-
-map-set : {A B : Type 0} (f : A → B) (xs : List A) (i : ℕ) (y : A) → map f (set xs i y) ≡ set (map f xs) i (f y)
-map-set f [] i y = refl
-map-set f (x ∷ xs) zero y = refl
-map-set f (x ∷ xs) (suc i) y = ap (λ l. f x ∷ l) (map-set f xs i y)
 
 -- the last end of a task is taken from a list of its ends
 pub gives_up : {A : Type 0} (ends : A → List EndAt) (hands : List A) (number : ℕ) (hand hand' : A) (end : EndAt) → slice_get hands number ≡ Some hand
@@ -158,6 +152,9 @@ back_on left p server client hands hands' apart back gives k hand is = by (eqb_t
         (subst (λ t. EachPair IsSameEnd (new_ends left k ++ new_ends (p ∷ []) k) ((hand ++ []) ++ (if t then server ∷ [] else []))) a.0
         (subst (λ t. EachPair IsSameEnd (new_ends left k ++ new_ends (p ∷ []) k) ((hand ++ (if t then client ∷ [] else [])) ++ (if k == server_of p.place then server ∷ [] else []))) b.0 pairs))))
 
+some_eq : {x y : List EndAt} → Some x ≡ Some y → x ≡ y
+some_eq e = cc
+
 -- another task's end stays the last
 ends_still : (left : List PageAt) (p : PageAt) (role : Role) (number other : ℕ) (end : EndAt) (old new : List (List EndAt)) → number ≢ other → GivesUp number end old new
     → EndsWith left p role other old → EndsWith left p role other new
@@ -167,9 +164,6 @@ ends_still left p role number other end old new apart gives e =
     let was = same_last e.rest has.0 e.end has.1 (some_eq (sym e.at ∙ same)) in
     record { rest = has.0; end = has.1; at = has.2; same = subst (λ x. IsSameEnd (new_end p role) x) was.1 e.same }
   where
-    some_eq : {x y : List EndAt} → Some x ≡ Some y → x ≡ y
-    some_eq e = cc
-
     still_same : (number other : ℕ) (end : EndAt) (old new : List (List EndAt)) → number ≢ other → GivesUp number end old new
         → (rest : List EndAt) (last : EndAt) → slice_get new other ≡ Some (rest ++ last ∷ []) → slice_get old other ≡ Some (rest ++ last ∷ [])
     still_same number other end old new apart gives rest last is =
@@ -185,9 +179,6 @@ pub record GaveUp (p : PageAt) (role : Role) (number : ℕ) (end : EndAt) (old :
 gave_up : (left : List PageAt) (p : PageAt) (role : Role) (number : ℕ) (end : EndAt) (old new : List (List EndAt)) → GivesUp number end old new → EndsWith left p role number old → GaveUp p role number end old
 gave_up left p role number end old new gives e = by (slice_get_cases new number).1
   where
-    some_eq : {x y : List EndAt} → Some x ≡ Some y → x ≡ y
-    some_eq e = cc
-
     by : ((x : List EndAt) × (number < length new) × (slice_get new number ≡ Some x) × (get_or new number x ≡ x)) ⊎ ((length new ≤ number) × (slice_get new number ≡ None)) → GaveUp p role number end old
     by (inr n) = absurd (omega (arith, n.0, gives.count, slice_get_within old number (e.rest ++ e.end ∷ []) e.at))
     by (inl x) =

@@ -2,10 +2,12 @@ use Rattle.std.proofs.Common.{◌≡◌, ◌<◌, ◌+◌, [], ◌∙◌, arith,
 use Rattle.std.specs.Vec.Iter.{into_iter_items}
 use Rattle.run_pages.specs.Pages.{HasSeats, IsLaidFor, page_at}
 use Rattle.run_pages.specs.Dealt.{AreDealt, HaveOrders, IsDealing}
-use Rattle.run_pages.proofs.DealingLaws.{IsNext, all_dealt, dealing_on, get_map, is_next, next_follows, none_dealt, none_ordered, take_all, within_seats}
+use Rattle.run_pages.proofs.DealingLaws.{IsNext, all_dealt, dealing_on, is_next, next_follows, none_dealt, none_ordered, take_all, within_seats}
+use Rattle.std.proofs.Math.ListN.{get_or-map}
 use Rattle.std.proofs.lemmas.Grind.{common_steps}
 use Rattle.std.proofs.lemmas.List.{length-map}
 use Rattle.list_laws.proofs.Each.{each_here}
+use Rattle.run_pages.proofs.lay.RunPages.deal.Goals.{After-index}
 use Rattle.run_pages.proofs.lay.RunPages.deal.Goals as goal
 
 pub loop-seats-init : goal.loop-seats-init
@@ -27,13 +29,15 @@ index-requires c =
     omega (arith, within, same)
 
 -- the page at the index, as the invariant has it
-next : (c : goal.After-index) → IsNext c.args.self.now c.loop-seats.index (page_at c.index.result.now) c.in-Some.seats (into_iter_items c.next.new.self) c.loop-seats.dealt.controls.items c.loop-seats.dealt.hands.items (length c.args.scenario.now.domains)
+here : (c : After-index) → get_or c.args.self.now c.loop-seats.index (page_at c.index.result.now) ≡ page_at c.index.result.now
+here c =
+    ap (λ pages. get_or pages c.loop-seats.index (page_at c.index.result.now)) (sym c.self.view_is)
+    ∙ get_or-map page_at c.self.inside.pages.items c.loop-seats.index c.index.result.now ∙ ap page_at (sym c.index.ensures)
+
+next : (c : After-index) → IsNext c.args.self.now c.loop-seats.index (page_at c.index.result.now) c.in-Some.seats (into_iter_items c.next.new.self) c.loop-seats.dealt.controls.items c.loop-seats.dealt.hands.items (length c.args.scenario.now.domains)
 next c =
-    let k = c.loop-seats.index in
-    let got : get_or c.args.self.now k (page_at c.index.result.now) ≡ page_at c.index.result.now =
-    ap (λ pages. get_or pages k (page_at c.index.result.now)) (sym c.self.view_is) ∙ get_map page_at c.self.inside.pages.items k c.index.result.now ∙ ap page_at (sym c.index.ensures) in
-    is_next c.args.self.now k (page_at c.index.result.now) c.in-Some.seats (into_iter_items c.next.new.self) (into_iter_items c.loop-seats.seats-iterator)
-    c.loop-seats.dealt.controls.items c.loop-seats.dealt.hands.items (length c.args.scenario.now.domains) c.in-Some.ensures.steps.0 (λ within. got) c.loop-seats.invariant.dealing
+    is_next c.args.self.now c.loop-seats.index (page_at c.index.result.now) c.in-Some.seats (into_iter_items c.next.new.self) (into_iter_items c.loop-seats.seats-iterator)
+    c.loop-seats.dealt.controls.items c.loop-seats.dealt.hands.items (length c.args.scenario.now.domains) c.in-Some.ensures.steps.0 (λ within. here c) c.loop-seats.invariant.dealing
 
 pub deal_page-requires-clause-seats : goal.deal_page-requires-clause-seats
 deal_page-requires-clause-seats c = (next c).dealing.seated.0
@@ -45,17 +49,15 @@ pub loop-seats-preserved : goal.loop-seats-preserved
 loop-seats-preserved c =
     let k = c.loop-seats.index in
     let p = page_at c.index.result.now in
-    let got : get_or c.args.self.now k p ≡ p =
-    ap (λ pages. get_or pages k p) (sym c.self.view_is) ∙ get_map page_at c.self.inside.pages.items k c.index.result.now ∙ ap page_at (sym c.index.ensures) in
-    let now = is_next c.args.self.now k p c.in-Some.seats (into_iter_items c.next.new.self) (into_iter_items c.loop-seats.seats-iterator)
-    c.loop-seats.dealt.controls.items c.loop-seats.dealt.hands.items (length c.args.scenario.now.domains) c.in-Some.ensures.steps.0 (λ within. got) c.loop-seats.invariant.dealing in
+    let w = (goal.at.loop-seats-preserved c).After-index in
+    let now = next w in
     let within = within_seats c.args.self.now k c.in-Some.seats (into_iter_items c.next.new.self) (subst (λ seats. HasSeats (drop k c.args.self.now) seats) c.in-Some.ensures.steps.0 c.loop-seats.invariant.dealing.seated) in
     record {
       dealing = subst (λ before. IsDealing before (drop (k + 1) c.args.self.now) (into_iter_items c.next.new.self) c.deal_page.new.self.controls.items c.deal_page.new.self.hands.items (length c.args.scenario.now.domains)) (sym now.taken)
           (dealing_on (take k c.args.self.now) (drop (k + 1) c.args.self.now) p c.in-Some.seats (into_iter_items c.next.new.self) c.loop-seats.dealt.controls.items c.deal_page.new.self.controls.items
           c.loop-seats.dealt.hands.items c.deal_page.new.self.hands.items (length c.args.scenario.now.domains) now.dealing
           (c.in_ok-deal_page.ensures.dealt (take k c.args.self.now) c.loop-seats.invariant.dealing.dealt) c.in_ok-deal_page.ensures.count);
-      ordered = c.in_ok-deal_page.ensures.orders c.args.scenario.now (each_here (IsLaidFor c.args.scenario.now) c.args.self.now k p within got c.requires.laid.each) c.loop-seats.invariant.ordered;
+      ordered = c.in_ok-deal_page.ensures.orders c.args.scenario.now (each_here (IsLaidFor c.args.scenario.now) c.args.self.now k p within (here w) c.requires.laid.each) c.loop-seats.invariant.ordered;
     }
 
 -- all pages are dealt

@@ -1,9 +1,8 @@
 use Rattle.std.proofs.Common.{◌≡◌, ◌<◌, ◌+◌, ◌++◌, ◌∷◌, [], ◌∙◌, arith, subst, sym, ap, map, take, get_or, length}
-use Rattle.std.proofs.lemmas.List.{take_all, take_more}
+use Rattle.std.proofs.lemmas.List.{take_all, take_more, map-append}
 use Rattle.std.proofs.lemmas.Grind.{common_steps}
 use Rattle.run_pages.specs.Pages.{IsLaying, page_at}
 use Rattle.run_pages.proofs.LayLaws.{lay_more}
-use Rattle.std.proofs.lemmas.List.{map-append}
 use Rattle.run_pages.proofs.starts.RunStarts.pages.Goals as goal
 
 pub loop-place-preserved : goal.loop-place-preserved
