@@ -56,9 +56,8 @@ still_calls g old new ident answer is h = record {
 -- ---- the sessions of the calls
 
 pub waits_none : (call : CallPlan) (x : Answer) → waits x ≡ true → called_by call x ≡ None
-waits_none call Waits w = refl
-waits_none call IsRefused w = refl
-waits_none call (At to port) w = cc
+waits_none call Waits w = cc
+waits_none call _ w = cc
 
 -- a refusal gives no session
 pub called_refused : (ident : List ℕ) (asked : List Asked) → map called_of (answered ident IsRefused asked) ≡ map called_of asked

@@ -144,8 +144,6 @@ calls_unserved q unsaid more opened said stand place c there = ((stand place c t
 
 -- no two calls wait by one ident
 one_waits : (ident : List ℕ) (asked : List Asked) (i j : ℕ) (a b : Asked) → AreDifferent (map asked_ident asked) → slice_get asked i ≡ Some a → slice_get asked j ≡ Some b → waits_as ident a ≡ true → waits_as ident b ≡ true → i ≡ j
-one_waits ident [] i j a b apart ai bj wa wb = cc
-one_waits ident (x ∷ asked) zero zero a b apart ai bj wa wb = refl
 one_waits ident (x ∷ asked) zero (suc j) a b apart ai bj wa wb =
     let same : x ≡ a = cc in
     absurd (each_get (λ k. asked_ident x ≡ k → ⊥) (map asked_ident asked) j (asked_ident b) apart.0 (get_map asked_ident asked j b bj) (ap asked_ident same ∙ (named ident a wa ∙ sym (named ident b wb))))
@@ -153,6 +151,7 @@ one_waits ident (x ∷ asked) (suc i) zero a b apart ai bj wa wb =
     let same : x ≡ b = cc in
     absurd (each_get (λ k. asked_ident x ≡ k → ⊥) (map asked_ident asked) i (asked_ident a) apart.0 (get_map asked_ident asked i a ai) (ap asked_ident same ∙ (named ident b wb ∙ sym (named ident a wa))))
 one_waits ident (x ∷ asked) (suc i) (suc j) a b apart ai bj wa wb = ap suc (one_waits ident asked i j a b apart.1 ai bj wa wb)
+one_waits ident _ _ _ a b apart ai bj wa wb = cc
 
 -- a call is let through
 pub calls_called : (q : QueueState) (ident : List ℕ) (to port place : ℕ) (unsaid opened : List SessionEnd) (said : List Message) → AreDifferent (map asked_ident (asked_by q)) → IsWaitingAt q place ident
@@ -203,10 +202,7 @@ calls_refused q ident unsaid opened said stand at x there = by_wait (waits_as id
 pub calls_fresh : (calls : List CallPlan) (unsaid opened : List SessionEnd) (said : List Message) → CallsStand (record { calls = map fresh calls; next = 0 }) unsaid opened said
 calls_fresh calls unsaid opened said place x there =
     let got = get_map_back fresh calls place x there in
-    subst (λ (y : Queued). (y.is_open ≡ true → place < 0) × CallStands unsaid opened said place y.is_open y.answer) got.2 (λ bad. absurd (shut bad), tt)
-  where
-    shut : false ≡ true → ⊥
-    shut bad = cc
+    subst (λ (y : Queued). (y.is_open ≡ true → place < 0) × CallStands unsaid opened said place y.is_open y.answer) got.2 (λ bad. cc, tt)
 
 -- ---- more is sent
 

@@ -98,19 +98,16 @@ reports_one plan end ends a over are h = (refl, by_answer a.call a.answer over h
   where
     by_answer : (call : CallPlan) (answer : Answer) (over : Option CallOver) → ReportsCalled plan.domain plan.version ends (called_by call answer) over → ReportsAnswer plan end call answer (call_end_of answer over)
     by_answer call Waits None h = tt
-    by_answer call Waits (Some over) h = absurd h
     by_answer call IsRefused None h = tt
-    by_answer call IsRefused (Some over) h = absurd h
-    by_answer call (At to port) None h = absurd h
     by_answer call (At to port) (Some over) h =
         (h.1, h.0, end_there ends end (Payload plan.domain to port) (CallerOwes plan.version call.stdin over.done) are h.2)
+    by_answer call _ _ h = absurd h
 
 reports_all : (plan : AgentPlan) (end : PagePlace → EndView) (ends : List EndAt) (asked : List Asked) (over : List (Option CallOver)) → AreEnds end ends → EachPair (ReportsCalled plan.domain plan.version ends) (map called_of asked) over
     → EachPair (ReportsCall plan end) asked (call_dones asked over)
 reports_all plan end ends [] [] are h = tt
-reports_all plan end ends [] (o ∷ over) are h = absurd h
-reports_all plan end ends (a ∷ asked) [] are h = absurd h
 reports_all plan end ends (a ∷ asked) (o ∷ over) are h = (reports_one plan end ends a o are h.0, reports_all plan end ends asked over are h.1)
+reports_all plan end ends _ _ are h = absurd h
 
 served_one : (plan : AgentPlan) (end : PagePlace → EndView) (ends : List EndAt) (x : Served) (s : Serves) (done : ServedDone) → AreEnds end ends → IsServedBy x s → ReportsServes plan.domain plan.version ends s done → ReportsServed plan end x done
 served_one plan end ends x s done are by h =
@@ -125,11 +122,10 @@ served_one plan end ends x s done are by h =
 served_all : (plan : AgentPlan) (end : PagePlace → EndView) (ends : List EndAt) (xs : List Served) (ss : List Serves) (dones : List ServedDone) → AreEnds end ends → EachPair IsServedBy xs ss
     → EachPair (ReportsServes plan.domain plan.version ends) ss dones → EachPair (ReportsServed plan end) xs dones
 served_all plan end ends [] [] [] are by h = tt
-served_all plan end ends [] [] (d ∷ dones) are by h = absurd h
 served_all plan end ends [] (s ∷ ss) dones are by h = absurd by
 served_all plan end ends (x ∷ xs) [] dones are by h = absurd by
-served_all plan end ends (x ∷ xs) (s ∷ ss) [] are by h = absurd h
 served_all plan end ends (x ∷ xs) (s ∷ ss) (d ∷ dones) are by h = (served_one plan end ends x s d are by.0 h.0, served_all plan end ends xs ss dones are by.1 h.1)
+served_all plan end ends _ _ _ are by h = absurd h
 
 -- ---- what it sent
 

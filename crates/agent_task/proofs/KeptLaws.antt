@@ -11,7 +11,7 @@ use Rattle.qrexec_frame.specs.declared.message.Message.TheVariants as m
 use Rattle.scenario_file.specs.declared.scenario.CallPlan.{CallPlan}
 use Rattle.task_duties.specs.declared.done.ControlEnd.{ControlEnd}
 use Rattle.task_duties.specs.declared.done.SessionEnd.{SessionEnd}
-use Rattle.task_duties.specs.Agent.Answers.{Answer, Waits, IsRefused, At, Asked}
+use Rattle.task_duties.specs.Agent.Answers.{Answer, Waits, Asked}
 use Rattle.task_duties.specs.Agent.Saying.{asking}
 use Rattle.data_slots.specs.Slots.{Called}
 use Rattle.agent_control.specs.Speaking.{IsSpoken, terminated}
@@ -42,10 +42,7 @@ set_more : (called : List (Option Called)) (place : ℕ) (c : Called) → slice_
     → IsPermutation (session_called c ∷ filter_map (option_map session_called) called) (filter_map (option_map session_called) (slice_set called place (Some c)))
 set_more [] place c free = cc
 set_more (None ∷ called) zero c free = IsPermutation-refl (session_called c ∷ filter_map (option_map session_called) called)
-set_more (Some d ∷ called) zero c free = absurd (bad free)
-  where
-    bad : ◌≡◌ {A = Option (Option Called)} (Some (Some d)) (Some None) → ⊥
-    bad e = cc
+set_more (Some d ∷ called) zero c free = cc
 set_more (None ∷ called) (suc place) c free = set_more called place c free
 set_more (Some d ∷ called) (suc place) c free =
     let rest = filter_map (option_map session_called) called in
@@ -146,17 +143,7 @@ ends_told (e ∷ told) = ap (λ l. session_of_end e ∷ l) (ends_told told)
 
 none_told : (m : Message) → is_some (asking m) ≡ true → session_told m ≡ None
 none_told (m.Terminated d p) h = cc
-none_told (m.Hello v) h = refl
-none_told (m.Stdin b) h = refl
-none_told (m.Stdout b) h = refl
-none_told (m.Stderr b) h = refl
-none_told (m.ExitCode c) h = refl
-none_told (m.Exec d p l) h = refl
-none_told (m.JustExec d p l) h = refl
-none_told (m.Connect d p i) h = refl
-none_told (m.Refused i) h = refl
-none_told (m.Trigger3 t i s) h = refl
-none_told (m.Trigger t i s) h = refl
+none_told _ h = cc
 
 triggers_told : (ms : List Message) → Each (λ m. is_some (asking m) ≡ true) ms → filter_map session_told ms ≡ []
 triggers_told [] each = refl
@@ -234,15 +221,12 @@ pub kept_lost : (how : ControlEnd) (called : List (Option Called)) (unsaid opene
     → AreKept (Some how) called unsaid opened heard said → AreKept (Some how) called unsaid opened' heard said
 kept_lost how called unsaid opened opened' told heard said p k = record {
   lost = t ++ k.lost;
-  none_lost = λ none. absurd (never none);
+  none_lost = λ none. cc;
   are = subst (λ l. IsPermutation l (sessions_known called heard)) (sym (move_lost f u o' t k.lost))
       (IsPermutation-trans (f ++ ((u ++ (o' ++ t)) ++ k.lost)) (sessions_held said unsaid opened k.lost) (sessions_known called heard)
       (inside f u k.lost (o' ++ t) (map session_of_end opened) (IsPermutation-trans (o' ++ t) (t ++ o') (map session_of_end opened) (IsPermutation-append_comm o' t) (overs told opened opened' p))) k.are);
 }
   where
-    never : Some how ≡ None → ⊥
-    never e = cc
-
     f : List (ℕ × ℕ)
     f = filter_map session_told said
 
@@ -258,10 +242,7 @@ kept_lost how called unsaid opened opened' told heard said p k = record {
 -- the control channel is over
 pub kept_still : (over : Option ControlEnd) (how : ControlEnd) (called : List (Option Called)) (unsaid opened : List SessionEnd) (heard said : List Message) → AreKept over called unsaid opened heard said
     → AreKept (Some how) called unsaid opened heard said
-kept_still over how called unsaid opened heard said k = record { lost = k.lost; none_lost = λ none. absurd (never none); are = k.are }
-  where
-    never : Some how ≡ None → ⊥
-    never e = cc
+kept_still over how called unsaid opened heard said k = record { lost = k.lost; none_lost = λ none. cc; are = k.are }
 
 -- ---- what is told
 
@@ -271,8 +252,7 @@ owed_known (a ∷ asked) = ap (λ (o : Option (ℕ × ℕ)). cons_option o (filt
   where
     by_answer : (call : CallPlan) (x : Answer) → option_map session_called (called_by call x) ≡ session_of_answer x
     by_answer call Waits = refl
-    by_answer call IsRefused = refl
-    by_answer call (At to port) = refl
+    by_answer call _ = refl
 
 known_owed : (called : List (Option Called)) (asked : List Asked) (heard : List Message) → called ≡ map called_of asked → sessions_known called heard ≡ sessions_owed asked heard
 known_owed called asked heard is = ap (λ (l : List (Option Called)). sessions_known l heard) is ∙ ap (λ l. l ++ filter_map session_asked heard) (owed_known asked)

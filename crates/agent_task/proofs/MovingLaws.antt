@@ -14,9 +14,8 @@ use Rattle.vchan_rule.specs.Ends.{IsSameEnd}
 use Rattle.vchan_rule.specs.Called.{most_asked}
 use Rattle.vchan_lifecycle.specs.Lifecycle.{drained_to, drain_told}
 use Rattle.vchan_lifecycle.specs.declared.DrainAnswer.{DrainAnswer}
-use Rattle.vchan_lifecycle.specs.declared.DrainAnswer.TheVariants.{More, NotYet, AllRead, PeerGone}
+use Rattle.vchan_lifecycle.specs.declared.DrainAnswer.TheVariants.{More, NotYet}
 use Rattle.vchan_lifecycle.proofs.DrainLaws.{drained_sent, drained_got}
-use Rattle.vchan_packet.specs.Packet as packet
 use Rattle.vchan_packet.specs.Packet.{send_told, sent_to}
 use Rattle.vchan_packet.specs.declared.SendAnswer.{SendAnswer}
 use Rattle.vchan_packet.specs.declared.SendAnswer.TheVariants.{Sent, NoRoom, PeerClosed}
@@ -52,8 +51,7 @@ takes_by : (old new : SeatedEnd) (drained : DrainAnswer) (before after : List �
 takes_by old new (More count) before after saw some long is trail cause = got_more old new count before after saw some long is ((cause (More count)).0 refl)
 takes_by old new (NotYet prod cons) before after saw some long is trail cause =
     (record { most = most_asked before; some = omega (arith, some); prod = prod; cons = cons; trail = trail; cause = (cause (NotYet prod cons)).0 refl }, ap (λ (v : EndView). v.got) is)
-takes_by old new AllRead before after saw some long is trail cause = tt
-takes_by old new (PeerGone prod cons) before after saw some long is trail cause = tt
+takes_by old new _ before after saw some long is trail cause = tt
 
 pub drains_by : (old new : SeatedEnd) (drained : DrainAnswer) (before after : List ℕ) (saw : Bool) → 0 < length before → length after ≡ length before → view new ≡ drained_to (view old) drained after saw
     → Trace (standing_of old.side) (Drain (most_asked before)) new.side.trail (drain_told drained)
@@ -76,8 +74,7 @@ found_by : (old greeted : PortState) (heard : SeatedEnd) (drained : DrainAnswer)
     → (length (view old.end).got < length (view heard).got) ⊎ HearsNothing old heard
 found_by old greeted heard (More count) greets got takes up = inl (subst (λ (l : List ℕ). length l < length (view heard).got) got takes)
 found_by old greeted heard (NotYet prod cons) greets got takes up = inr (record { greeted = greeted; greets = greets; not_yet = takes.0; none = takes.1 ∙ got })
-found_by old greeted heard AllRead greets got takes up = cc
-found_by old greeted heard (PeerGone prod cons) greets got takes up = cc
+found_by old greeted heard _ greets got takes up = cc
 
 pub listens_by : (old greeted : PortState) (heard : SeatedEnd) (drained : DrainAnswer) → Greets old greeted → (view greeted.end).got ≡ (view old.end).got → Drains drained greeted.end heard → end_by drained ≡ None → Listens old heard
 listens_by old greeted heard drained greets got drains up = record {

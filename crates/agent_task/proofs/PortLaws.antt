@@ -7,10 +7,8 @@ use Rattle.vchan_rule.specs.Ends.{IsSameEnd}
 use Rattle.vchan_rule.proofs.EndLaws.{same_end_then}
 use Rattle.vchan_packet.specs.Packet.{sent_to}
 use Rattle.vchan_packet.specs.declared.SendAnswer.{SendAnswer}
-use Rattle.vchan_packet.specs.declared.SendAnswer.TheVariants.{Sent, NoRoom, PeerClosed}
+use Rattle.vchan_packet.specs.declared.SendAnswer.TheVariants.{Sent}
 use Rattle.vchan_packet.proofs.PacketLaws.{sent_got}
-use Rattle.vchan_lifecycle.specs.declared.DrainAnswer.TheVariants as drain
-use Rattle.vchan_protocol.specs.declared.side.EndedBy.TheVariants as by
 use Rattle.end_view.specs.EndView.{EndView}
 use Rattle.task_duties.specs.Agent.Saying.{IsOfVersion}
 use Rattle.control_port.specs.Port.{PortState, HasSaid, HasHeard, HasHeardAll, OnlyHears, Hands}
@@ -69,8 +67,7 @@ kept_same old new same v is = same ∙ is
 
 ended_sent : (e : EndView) (sent : SendAnswer) (payload : List ℕ) → (sent_to e sent payload).ended ≡ e.ended
 ended_sent e Sent payload = refl
-ended_sent e (NoRoom prod cons) payload = refl
-ended_sent e PeerClosed payload = refl
+ended_sent e _ payload = refl
 
 -- no bytes came, so all that came were handed out as before
 pub still_all : (old new : PortState) (heard : List Message) → (view new.end).got ≡ (view old.end).got

@@ -204,7 +204,7 @@ is_over a port drained how hung out ended over =
       heard = out.heard;
       said = out.said;
       stands = record { port = stands.port; calls = stands.calls; slots = stands.slots; answers = stands.answers; asked_for = stands.asked_for; speaks = stands.speaks; quiet = stands.quiet };
-      keeps = (kept_still a.over how a.slots.called a.control.unsaid.items a.slots.opened out.heard out.said out.keeps.0, λ up. absurd (never up));
+      keeps = (kept_still a.over how a.slots.called a.control.unsaid.items a.slots.opened out.heard out.said out.keeps.0, λ up. cc);
       all = all_hung_up a.control.port port out.heard hung out.all;
       how_is = control_over a port drained how a.control.port.fault hung out ended refl over;
       fault_is = λ f is. fault_over drained how f a.control.port.fault (sym (ap (λ (h : Heard). h.fault) (heard_hung_up a.control.port port hung ∙ out.all)) ∙ is) over;
@@ -212,6 +212,3 @@ is_over a port drained how hung out ended over =
       idle = ap (λ (v : EndView). v.idle) hung.view_is ∙ out.is_open.0;
       retired = ap (λ (v : EndView). v.retired) hung.view_is;
     }
-  where
-    never : Some how ≡ None → ⊥
-    never e = cc

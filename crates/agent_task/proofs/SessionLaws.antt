@@ -1,7 +1,6 @@
 -- What a turn of its sessions makes of an agent.
-use Rattle.std.proofs.Common.{◌≡◌, ℕ, List, [], ◌∷◌, ◌++◌, refl, ap, sym, ◌∙◌, Some, None, Option, subst, inl, inr}
+use Rattle.std.proofs.Common.{◌≡◌, ℕ, List, [], ◌∷◌, ◌++◌, refl, ap, sym, ◌∙◌, Some, None, Option, subst, inl, inr, arith}
 use Rattle.std.specs.Prelude.{true, false, map, slice_get, ◌==◌, ◌&&◌, is_some, IsPermutation}
-use Rattle.std.proofs.Common.{arith}
 use Rattle.std.proofs.lemmas.Bool.Decides.{nat_tests}
 use Rattle.std.specs.List.{AllByRecursion as Each}
 use Rattle.list_laws.specs.Lists.{SomeOf}
@@ -11,7 +10,7 @@ use Rattle.qrexec_frame.specs.declared.message.Message.{Message}
 use Rattle.scenario_file.specs.declared.scenario.CallPlan.{CallPlan}
 use Rattle.task_duties.specs.declared.done.ControlEnd.{ControlEnd}
 use Rattle.task_duties.specs.declared.done.SessionEnd.{SessionEnd}
-use Rattle.task_duties.specs.Agent.Answers.{Answer, Waits, IsRefused, At}
+use Rattle.task_duties.specs.Agent.Answers.{Answer, At}
 use Rattle.task_duties.specs.Agent.Saying.{is_at, AsksToServe}
 use Rattle.call_queue.specs.Queue.{asked_by}
 use Rattle.data_slots.specs.Sessions.{Session, AllTakeTurns, TakesTurn, session_at}
@@ -67,7 +66,7 @@ slots_over how a s told is p over_is over = record {
         (subst (λ (o : Option ControlEnd). AreKept o a.slots.called a.control.unsaid.items s.opened over.heard over.said) (sym over_is)
         (kept_lost how a.slots.called a.control.unsaid.items a.slots.opened s.opened told over.heard over.said p
         (subst (λ (o : Option ControlEnd). AreKept o a.slots.called a.control.unsaid.items a.slots.opened over.heard over.said) over_is over.keeps.0))),
-    λ up. absurd (never (sym over_is ∙ up)),
+    λ up. (let none = sym over_is ∙ up in cc),
   );
   all = over.all;
   how_is = over.how_is;
@@ -76,9 +75,6 @@ slots_over how a s told is p over_is over = record {
   idle = over.idle;
   retired = over.retired;
 }
-  where
-    never : Some how ≡ None → ⊥
-    never e = cc
 
 pub slots_running : (a : Agent) (s : SlotsState) (told : List SessionEnd) → IsRunning a → is_some a.over ≡ true → s ≡ record a.slots { opened = s.opened; sessions = s.sessions } → IsPermutation (told ++ s.opened) a.slots.opened → IsRunning (with_slots a s)
 slots_running a s told running some is p = by_over a.over refl some
@@ -91,12 +87,11 @@ same_numbers : (x y : ℕ) → (x == x && y == y) ≡ true
 same_numbers x y = grind (arith, nat_tests)
 
 called_at : (call : CallPlan) (answer : Answer) (c : Called) → called_by call answer ≡ Some c → is_at c.to c.port answer ≡ true
-called_at call Waits c is = cc
-called_at call IsRefused c is = cc
 called_at call (At to port) c is =
     let it : Called = record { to = to; port = port; input = call.stdin } in
     let same : it ≡ c = cc in
     subst (λ (k : Called). is_at k.to k.port (At to port) ≡ true) same (same_numbers to port)
+called_at call _ c is = cc
 
 asked_to_serve : (heard : List Message) (served : List Serves) (d p : ℕ) → AreAskedFor heard served → SomeOf (λ x. (x.from ≡ d) × (x.port ≡ p)) served → SomeOf (AsksToServe d p) heard
 asked_to_serve heard [] d p each h = absurd h

@@ -9,7 +9,7 @@ use Rattle.list_laws.proofs.Each.{each_weaker, each_append, some_append}
 use Rattle.qrexec_frame.specs.declared.message.Message.{Message}
 use Rattle.qrexec_frame.specs.declared.message.Message.TheVariants as m
 use Rattle.task_duties.specs.declared.done.SessionEnd.{SessionEnd}
-use Rattle.task_duties.specs.Agent.Answers.{Answer, Waits, IsRefused, At, Asked, waits, waits_as, answered}
+use Rattle.task_duties.specs.Agent.Answers.{Answer, Waits, Asked, waits, waits_as, answered}
 use Rattle.task_duties.specs.Agent.Saying.{is_at, AsksToServe, IsTold}
 use Rattle.call_queue.specs.Queue.{QueueState, asked_by}
 use Rattle.call_queue.specs.Asking.{Asks}
@@ -21,17 +21,7 @@ use Rattle.agent_control.specs.Speaking.{MayTell, IsTellable, Speaks}
 told_more : (asked : List Asked) (heard more : List Message) (w : Message) → IsTold asked heard w → IsTold asked (heard ++ more) w
 told_more asked heard more (m.Terminated d p) (inl own) = inl own
 told_more asked heard more (m.Terminated d p) (inr there) = inr (some_append (AsksToServe d p) heard more there)
-told_more asked heard more (m.Hello v) h = h
-told_more asked heard more (m.Stdin b) h = h
-told_more asked heard more (m.Stdout b) h = h
-told_more asked heard more (m.Stderr b) h = h
-told_more asked heard more (m.ExitCode c) h = h
-told_more asked heard more (m.Exec d p l) h = h
-told_more asked heard more (m.JustExec d p l) h = h
-told_more asked heard more (m.Connect d p i) h = h
-told_more asked heard more (m.Refused i) h = h
-told_more asked heard more (m.Trigger3 t i s) h = h
-told_more asked heard more (m.Trigger t i s) h = h
+told_more asked heard more _ h = h
 
 may_more : (asked : List Asked) (heard more : List Message) (call : Option ℕ) (d p : ℕ) → MayTell asked heard call d p → MayTell asked (heard ++ more) call d p
 may_more asked heard more (Some place) d p h = h
@@ -54,8 +44,7 @@ given_answer ident answer a = if waits_as ident a then record { call = a.call; a
 
 pub waits_not_at : (d p : ℕ) (x : Answer) → waits x ≡ true → is_at d p x ≡ true → {A : Type 0} → A
 waits_not_at d p Waits w at = absurd (let e : false ≡ true = at in cc)
-waits_not_at d p IsRefused w at = absurd (let e : false ≡ true = w in cc)
-waits_not_at d p (At to port) w at = absurd (let e : false ≡ true = w in cc)
+waits_not_at d p _ w at = absurd (let e : false ≡ true = w in cc)
 
 at_still : (ident : List ℕ) (answer : Answer) (d p : ℕ) (a : Asked) → is_at d p a.answer ≡ true → is_at d p (given_answer ident answer a).answer ≡ true
 at_still ident answer d p a at = by_wait (waits_as ident a) refl
@@ -72,17 +61,7 @@ some_still ident answer d p (a ∷ asked) (inr h) = inr (some_still ident answer
 told_still : (ident : List ℕ) (answer : Answer) (asked : List Asked) (heard : List Message) (w : Message) → IsTold asked heard w → IsTold (answered ident answer asked) heard w
 told_still ident answer asked heard (m.Terminated d p) (inl own) = inl (some_still ident answer d p asked own)
 told_still ident answer asked heard (m.Terminated d p) (inr there) = inr there
-told_still ident answer asked heard (m.Hello v) h = h
-told_still ident answer asked heard (m.Stdin b) h = h
-told_still ident answer asked heard (m.Stdout b) h = h
-told_still ident answer asked heard (m.Stderr b) h = h
-told_still ident answer asked heard (m.ExitCode c) h = h
-told_still ident answer asked heard (m.Exec d p l) h = h
-told_still ident answer asked heard (m.JustExec d p l) h = h
-told_still ident answer asked heard (m.Connect d p i) h = h
-told_still ident answer asked heard (m.Refused i) h = h
-told_still ident answer asked heard (m.Trigger3 t i s) h = h
-told_still ident answer asked heard (m.Trigger t i s) h = h
+told_still ident answer asked heard _ h = h
 
 may_still : (ident : List ℕ) (answer : Answer) (asked : List Asked) (heard : List Message) (call : Option ℕ) (d p : ℕ) → MayTell asked heard call d p → MayTell (answered ident answer asked) heard call d p
 may_still ident answer asked heard (Some place) d p h = (given_answer ident answer h.0, get_map (given_answer ident answer) asked place h.0 h.1, at_still ident answer d p h.0 h.2)

@@ -5,7 +5,8 @@ use Rattle.std.specs.List.{list_any, AllByRecursion as Each, AllZip as EachPair}
 use Rattle.std.proofs.lemmas.Bool.{and_right, and_parts}
 use Rattle.list_laws.specs.Lists.{SomeOf}
 use Rattle.list_laws.proofs.Places.{get_map}
-use Rattle.list_laws.proofs.Each.{each_weaker, some_append, some_push}
+use Rattle.list_laws.proofs.Each.{each_push, each_weaker, some_append, some_push}
+use Rattle.list_laws.proofs.Pairs.{pairs_push}
 use Rattle.service_gate.specs.declared.builtin.Builtin.{Builtin}
 use Rattle.qrexec_frame.specs.declared.message.Message.{Message}
 use Rattle.qrexec_frame.specs.declared.message.Message.TheVariants as m
@@ -13,7 +14,7 @@ use Rattle.task_duties.specs.declared.place.PagePlace.TheVariants.{Payload}
 use Rattle.task_duties.specs.declared.done.SessionEnd.{SessionEnd}
 use Rattle.task_duties.specs.Places.{has_place, without}
 use Rattle.task_duties.specs.Words.{service_of_line}
-use Rattle.task_duties.specs.Agent.Answers.{IsRefused, At, Served, Answers, waits_as, answered, serves, takes, answers, nothing_heard}
+use Rattle.task_duties.specs.Agent.Answers.{IsRefused, At, Answers, waits_as, answered, serves, takes, answers, nothing_heard}
 use Rattle.task_duties.specs.Agent.Saying.{AsksToServe}
 use Rattle.call_queue.specs.Queue.{Queued, QueueState, asked_as, asked_by, after_answer, IsWaitingAt}
 use Rattle.call_queue.specs.Asking.{Asks}
@@ -104,30 +105,13 @@ passes_other a w awaits connect refused exec just_exec = passes a w awaits (same
     asks_none : (w : Message) → ((d p : ℕ) (l : List ℕ) → w ≡ m.Exec d p l → ⊥) → ((d p : ℕ) (l : List ℕ) → w ≡ m.JustExec d p l → ⊥) → session_asked w ≡ None
     asks_none (m.Exec d p l) e j = absurd (e d p l refl)
     asks_none (m.JustExec d p l) e j = absurd (j d p l refl)
-    asks_none (m.Connect d p i) e j = refl
-    asks_none (m.Refused i) e j = refl
-    asks_none (m.Hello v) e j = refl
-    asks_none (m.Stdin b) e j = refl
-    asks_none (m.Stdout b) e j = refl
-    asks_none (m.Stderr b) e j = refl
-    asks_none (m.ExitCode k) e j = refl
-    asks_none (m.Terminated d p) e j = refl
-    asks_none (m.Trigger3 t i s) e j = refl
-    asks_none (m.Trigger t i s) e j = refl
+    asks_none _ e j = refl
 
     same : (w : Message) → ((d p : ℕ) (i : List ℕ) → w ≡ m.Connect d p i → ⊥) → ((i : List ℕ) → w ≡ m.Refused i → ⊥) → ((d p : ℕ) (l : List ℕ) → w ≡ m.Exec d p l → ⊥) → (x : Answers) → takes a.given.domain x w ≡ x
     same (m.Connect d p i) c r e x = absurd (c d p i refl)
     same (m.Refused i) c r e x = absurd (r i refl)
     same (m.Exec d p l) c r e x = absurd (e d p l refl)
-    same (m.JustExec d p l) c r e x = refl
-    same (m.Hello v) c r e x = refl
-    same (m.Stdin b) c r e x = refl
-    same (m.Stdout b) c r e x = refl
-    same (m.Stderr b) c r e x = refl
-    same (m.ExitCode k) c r e x = refl
-    same (m.Terminated d p) c r e x = refl
-    same (m.Trigger3 t i s) c r e x = refl
-    same (m.Trigger t i s) c r e x = refl
+    same _ c r e x = refl
 
 -- ---- MSG_SERVICE_CONNECT
 
@@ -255,16 +239,6 @@ refuse_taken a ident q awaits q_is asks =
 
 -- ---- MSG_EXEC_CMDLINE
 
-pair_last : (xs : List Served) (ys : List Serves) (x : Served) (y : Serves) → EachPair IsServedBy xs ys → IsServedBy x y → EachPair IsServedBy (xs ++ x ∷ []) (ys ++ y ∷ [])
-pair_last [] [] x y each last = (last, tt)
-pair_last [] (z ∷ ys) x y each last = absurd each
-pair_last (z ∷ xs) [] x y each last = absurd each
-pair_last (z ∷ xs) (w ∷ ys) x y each last = (each.0, pair_last xs ys x y each.1 last)
-
-asked_last : (heard : List Message) (served : List Serves) (x : Serves) → AreAskedFor heard served → SomeOf (AsksToServe x.from x.port) heard → AreAskedFor heard (served ++ x ∷ [])
-asked_last heard [] x each last = (last, tt)
-asked_last heard (y ∷ served) x each last = (each.0, asked_last heard served x each.1 last)
-
 pub serve_taken : (a : Agent) (from port : ℕ) (line : List ℕ) (service : Builtin) (s : SlotsState) → Awaits a (m.Exec from port line) → IsNamed (service_of_line line) (Some service)
     → true ≡ has_place (Payload from a.slots.domain port) a.slots.unused
     → s ≡ record a.slots { unused = without (Payload from a.slots.domain port) a.slots.unused; served = a.slots.served ++ record { from = from; port = port; service = service } ∷ []; opened = a.slots.opened ++ record { domain = from; port = port; call = None } ∷ []; sessions = s.sessions }
@@ -310,11 +284,11 @@ serve_taken a from port line service s awaits named there s_is = by_name (servic
           unused = ap (λ (x : SlotsState). x.unused) s_is ∙ ap (λ (d : ℕ). without (Payload from d port) a.slots.unused) stands.slots.domain ∙ ap (λ l. without (Payload from a.given.domain port) l) stands.answers.unused;
           called = ap (λ (x : SlotsState). x.called) s_is ∙ stands.answers.called;
           served = subst (λ l. EachPair IsServedBy (made.served ++ record { from = from; port = port; service = name } ∷ []) l) (sym served_is)
-              (pair_last made.served a.slots.served (record { from = from; port = port; service = name }) (record { from = from; port = port; service = service }) stands.answers.served (refl, refl, is_service));
+              (pairs_push IsServedBy made.served a.slots.served (record { from = from; port = port; service = name }) (record { from = from; port = port; service = service }) stands.answers.served (refl, refl, is_service));
         }) in
         acts a a.control.queue s w awaits (stands_on a a.control.queue s heard said w stands stands.calls slots are
         (subst (λ l. AreAskedFor (heard ++ w ∷ []) l) (sym served_is)
-        (asked_last (heard ++ w ∷ []) a.slots.served (record { from = from; port = port; service = service }) (asked_for_more heard (w ∷ []) a.slots.served stands.asked_for) (some_push (AsksToServe from port) heard w (refl, refl))))
+        (each_push (λ x. SomeOf (AsksToServe x.from x.port) (heard ++ w ∷ [])) a.slots.served (record { from = from; port = port; service = service }) (asked_for_more heard (w ∷ []) a.slots.served stands.asked_for) (some_push (AsksToServe from port) heard w (refl, refl))))
         (hears_more a.control heard (w ∷ []) said stands.speaks)) (keeps, calls)
 
 -- ---- which ends are to be reported

@@ -1,6 +1,5 @@
-use Rattle.std.proofs.Common.{arith, sym, ap}
+use Rattle.std.proofs.Common.{arith, sym, ap, length}
 use Rattle.std.proofs.lemmas.List.Sums.{position_or_len_is}
-use Rattle.std.proofs.Common.{length}
 use Rattle.task_duties.specs.Words.{is_space}
 use Rattle.agent_task.proofs.line.name_end.Goals as goal
 
