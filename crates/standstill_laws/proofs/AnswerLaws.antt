@@ -13,14 +13,13 @@ use Rattle.call_broker.specs.declared.event.Event.TheVariants as event
 use Rattle.call_broker.specs.declared.decision.Cause.{Cause}
 use Rattle.call_broker.specs.declared.decision.Cause.TheVariants.{NoDomain, SameDomain, NoService, TargetDropped, PairFull, PortsSpent}
 use Rattle.call_broker.specs.declared.decision.Decision.{Decision}
-use Rattle.call_broker.specs.declared.decision.Decision.TheVariants.{Accepted, Refused, Ended, PassedOver}
+use Rattle.call_broker.specs.declared.decision.Decision.TheVariants.{Accepted, Refused, PassedOver}
 use Rattle.call_broker.specs.declared.decision.Entry.{Entry}
-use Rattle.call_broker.specs.Domains.{Domains, target_of, is_service, pages_of, port_after}
+use Rattle.call_broker.specs.Domains.{Domains, target_of, is_service, pages_of, port_after, name_of}
 use Rattle.call_broker.specs.Pair.{PairState, has, towards, state_after, takes_call, answers, decision}
 use Rattle.call_broker.specs.Journal.{drops, is_dropped, IsDecidedOn}
 use Rattle.call_broker.proofs.DroppedLaws.{dropped_is, dropped_more}
 use Rattle.qrexec_frame.specs.Names.{cleaned_service}
-use Rattle.call_broker.specs.Domains.{name_of}
 use Rattle.call_broker.proofs.AnswerLaws.{of_towards}
 use Rattle.task_duties.specs.Words.{exec_line}
 use Rattle.task_duties.specs.Hearing.{Heard, hears, to_broker}
@@ -135,8 +134,7 @@ answered_counts w hub d from target service ident decided (inr (cause, is)) =
 others_count : (w : List ℕ) (hub : Domains) (d from : ℕ) (target service ident : List ℕ) (decided : Decision) → (d == from) ≡ false → count_by (is_answer w) (puts hub d (event.Trigger from target service ident) decided) ≡ 0
 others_count w hub d from target service ident (Accepted to port) apart = accepted_counts w hub d from target service ident to port ∙ ap (λ (b : Bool). if b then one_if (bytes_eq ident w) else 0) apart
 others_count w hub d from target service ident (Refused cause) apart = refused_counts w hub d from target service ident cause ∙ ap (λ (b : Bool). if b then one_if (bytes_eq ident w) else 0) apart
-others_count w hub d from target service ident (Ended a b port) apart = refl
-others_count w hub d from target service ident PassedOver apart = refl
+others_count w hub d from target service ident _ apart = refl
 
 -- what is counted of the events that were read
 read_counts : (w : List ℕ) (d : ℕ) (x : Entry) (journal : List Entry)
@@ -196,15 +194,7 @@ asks_counts w d (m ∷ messages) = by_message m (asks_counts w d messages)
     by_message (message.Trigger t i s) rest =
         count_cons (asks w) (event.Trigger d t s i) (filter_map (event_of d) messages) ∙ ap (λ (n : ℕ). one_if (bytes_eq i w) + n) rest ∙ sym (count_cons (is_trigger w) (message.Trigger t i s) messages)
     by_message (message.Terminated o p) rest = count_same (asks w) (event.Terminated d o p) (filter_map (event_of d) messages) refl ∙ rest ∙ sym (count_same (is_trigger w) (message.Terminated o p) messages refl)
-    by_message (message.Hello v) rest = rest ∙ sym (count_same (is_trigger w) (message.Hello v) messages refl)
-    by_message (message.Exec x p l) rest = rest ∙ sym (count_same (is_trigger w) (message.Exec x p l) messages refl)
-    by_message (message.JustExec x p l) rest = rest ∙ sym (count_same (is_trigger w) (message.JustExec x p l) messages refl)
-    by_message (message.Connect x p i) rest = rest ∙ sym (count_same (is_trigger w) (message.Connect x p i) messages refl)
-    by_message (message.Refused i) rest = rest ∙ sym (count_same (is_trigger w) (message.Refused i) messages refl)
-    by_message (message.Stdin b) rest = rest ∙ sym (count_same (is_trigger w) (message.Stdin b) messages refl)
-    by_message (message.Stdout b) rest = rest ∙ sym (count_same (is_trigger w) (message.Stdout b) messages refl)
-    by_message (message.Stderr b) rest = rest ∙ sym (count_same (is_trigger w) (message.Stderr b) messages refl)
-    by_message (message.ExitCode c) rest = rest ∙ sym (count_same (is_trigger w) (message.ExitCode c) messages refl)
+    by_message m rest = rest ∙ sym (count_same (is_trigger w) m messages refl)
 
 -- the broker has read all that the agent of a domain sent
 pub broker_reads : (hub : Domains) (journal : List Entry) (said : ℕ → List Message) (lines : List BrokerLine) (rest : AreAtRest lines) (place : ℕ) (line : BrokerLine) (at : IsAt lines place line) (up : is_shut (view line.end).state ≡ false)

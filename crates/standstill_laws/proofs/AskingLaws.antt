@@ -2,7 +2,7 @@
 use Rattle.std.proofs.Common.{◌≡◌, ℕ, ◌<◌, ◌≤◌, zero, suc, List, [], ◌∷◌, ◌++◌, length, take, get_or, map, refl, ap, sym, ◌∙◌, subst, inl, inr, arith, Some, None, Option}
 use Rattle.std.specs.Prelude.{◌⊎◌, Bool, true, false, ◌&&◌, bytes_eq, filter_map, slice_get, MatchOption, IsSomeAnd, IsPermutation, if◌then◌else◌}
 use Rattle.std.specs.List.{count_by, cons_option, AllByRecursion as Each}
-use Rattle.std.proofs.lemmas.List.{append-nil, length-map}
+use Rattle.std.proofs.lemmas.List.{append-nil, length-map, take_all}
 use Rattle.std.proofs.lemmas.Option.{slice_get_cases, slice_get_within}
 use Rattle.std.proofs.lemmas.Slice.Eq.{bytes_eq-Decides}
 use Rattle.std.proofs.lemmas.Bool.{and_parts}
@@ -34,17 +34,7 @@ asks_by w (Some a) = bytes_eq a.ident w
 
 trigger_by : (w : List ℕ) (m : Message) → is_trigger w m ≡ asks_by w (asking m)
 trigger_by w (message.Trigger3 t i s) = refl
-trigger_by w (message.Trigger t i s) = refl
-trigger_by w (message.Terminated o p) = refl
-trigger_by w (message.Hello v) = refl
-trigger_by w (message.Exec x p l) = refl
-trigger_by w (message.JustExec x p l) = refl
-trigger_by w (message.Connect x p i) = refl
-trigger_by w (message.Refused i) = refl
-trigger_by w (message.Stdin b) = refl
-trigger_by w (message.Stdout b) = refl
-trigger_by w (message.Stderr b) = refl
-trigger_by w (message.ExitCode c) = refl
+trigger_by w _ = refl
 
 abbrev IsAskingBy : List ℕ → Asking → Type 0
 IsAskingBy w a = bytes_eq a.ident w ≡ true
@@ -70,16 +60,7 @@ asked_counts w (m ∷ said) there = by_asking (asking m) refl there (asked_count
 answers_to : (w : List ℕ) (m : Message) → is_answer w m ≡ true → AnswersTo w m
 answers_to w (message.Connect to port i) is = (bytes_eq-Decides i w).0 is
 answers_to w (message.Refused i) is = (bytes_eq-Decides i w).0 is
-answers_to w (message.Trigger3 t i s) is = cc
-answers_to w (message.Trigger t i s) is = cc
-answers_to w (message.Terminated o p) is = cc
-answers_to w (message.Hello v) is = cc
-answers_to w (message.Exec x p l) is = cc
-answers_to w (message.JustExec x p l) is = cc
-answers_to w (message.Stdin b) is = cc
-answers_to w (message.Stdout b) is = cc
-answers_to w (message.Stderr b) is = cc
-answers_to w (message.ExitCode c) is = cc
+answers_to w _ is = cc
 
 -- an answer that is counted came
 answer_came : (w : List ℕ) (heard : List Message) → 0 < count_by (is_answer w) heard → SomeOf (AnswersTo w) heard
@@ -170,19 +151,13 @@ all_next task said c channel hears up shut none held = by_next (slice_get c.queu
 
 -- ---- the law
 
-take_past : {A : Type 0} (n : ℕ) (xs : List A) → length xs ≤ n → take n xs ≡ xs
-take_past zero [] past = refl
-take_past (suc n) [] past = refl
-take_past zero (x ∷ xs) past = absurd (omega (arith, past))
-take_past (suc n) (x ∷ xs) past = ap (λ l. x ∷ l) (take_past n xs (omega (arith, past)))
-
 each_from : {A : Type 0} (P : A → Type 0) (xs : List A) → ((place : ℕ) (x : A) → slice_get xs place ≡ Some x → P x) → Each P xs
 each_from P [] all = tt
 each_from P (x ∷ xs) all = (all 0 x refl, each_from P xs (λ place. all (suc place)))
 
 pub agents_have_asked_all_lem : AgentsHaveAskedAll
 agents_have_asked_all_lem task t c is up shut none held differ hears = record {
-  asked = channel.asks ∙ take_past c.queue.next (map asking_of task.plan.calls) few;
+  asked = channel.asks ∙ take_all c.queue.next (map asking_of task.plan.calls) few;
   answered = subst (λ l. Each (λ a. waits a.answer ≡ false) l) channel.answered (each_from (λ a. waits a.answer ≡ false) (asked_by c.queue) each_answered);
   told = subst (λ l. IsPermutation l (owed_on task.plan task.control)) (append-nil (filter_map session_told t.once.said))
       (subst (λ l. IsPermutation (filter_map session_told t.once.said ++ l) (owed_on task.plan task.control)) (ap (λ l. l ++ task.opened) (channel.waiting ∙ ap (map session_of_end) none) ∙ shut) (t.waits up));

@@ -5,7 +5,7 @@ use Rattle.task_duties.specs.declared.place.PagePlace.{PagePlace}
 use Rattle.task_duties.specs.Hearing.{hears, to_agent}
 use Rattle.task_duties.specs.Agent.Given.{AgentPlan}
 use Rattle.task_duties.specs.Agent.Answers.{answers}
-use Rattle.data_slots.specs.Sessions.{Session, NotBegun, CallsWith, AwaitsPage, ServesWith, EndedWith, session_at, TakesTurn, HadNotBegun, CallMade, ServingMade, PageCame, PageAwaited, IsOver, WasOver}
+use Rattle.data_slots.specs.Sessions.{Session, NotBegun, session_at, TakesTurn, HadNotBegun, CallMade, ServingMade, PageCame, PageAwaited, IsOver, WasOver}
 use Rattle.data_slots.specs.Agreeing.{place_if_free, places_free}
 use Rattle.agent_task.specs.State.{answers_so_far}
 use Rattle.standstill_laws.specs.Asking.{NoSessionBegins}
@@ -15,11 +15,8 @@ has_begun NotBegun = false
 has_begun session = true
 
 has_not : (s : Session) → has_begun s ≡ false → s ≡ NotBegun
-has_not NotBegun is = refl
-has_not (CallsWith at) is = cc
-has_not AwaitsPage is = cc
-has_not (ServesWith at) is = cc
-has_not (EndedWith end) is = cc
+has_not NotBegun is = cc
+has_not _ is = cc
 
 -- a session that takes its turn has begun still
 still_begun : (old new : Session) → TakesTurn old new → old ≢ NotBegun → has_begun new ≡ true
@@ -33,10 +30,7 @@ still_begun old new (WasOver end was is) begun = ap has_begun is
 
 one_free : (p : PagePlace) (s : Session) → length (place_if_free p s) ≡ (if has_begun s then 0 else 1)
 one_free p NotBegun = refl
-one_free p (CallsWith at) = refl
-one_free p AwaitsPage = refl
-one_free p (ServesWith at) = refl
-one_free p (EndedWith end) = refl
+one_free p _ = refl
 
 more_free : (p : PagePlace) (s : Session) (places : List PagePlace) (sessions : List Session) (b : Bool) → has_begun s ≡ b → length (places_free (p ∷ places) (s ∷ sessions)) ≡ (if b then 0 else 1) + length (places_free places sessions)
 more_free p s places sessions b is =
@@ -63,9 +57,7 @@ fewer_free (p ∷ places) (a ∷ old) (b ∷ new) long long' still = by_heads (h
 same_free : (places : List PagePlace) (old new : List Session) → length old ≡ length places → length new ≡ length places → StillBegun old new → length (places_free places new) ≡ length (places_free places old)
     → (i : ℕ) → has_begun (session_at old i) ≡ false → has_begun (session_at new i) ≡ false
 same_free [] [] [] long long' still same i shut = refl
-same_free [] (a ∷ old) new long long' still same i shut = absurd (omega (arith, long))
 same_free [] [] (b ∷ new) long long' still same i shut = absurd (omega (arith, long'))
-same_free (p ∷ places) [] new long long' still same i shut = absurd (omega (arith, long))
 same_free (p ∷ places) (a ∷ old) [] long long' still same i shut = absurd (omega (arith, long'))
 same_free (p ∷ places) (a ∷ old) (b ∷ new) long long' still same i shut =
     by_heads (has_begun a) refl (has_begun b) refl (fewer_free places old new (omega (arith, long)) (omega (arith, long')) (λ j. still (suc j))) i shut
@@ -81,6 +73,7 @@ same_free (p ∷ places) (a ∷ old) (b ∷ new) long long' still same i shut =
     by_heads true is false is' fewer i shut rest = absurd (let bad : true ≡ false = sym (still 0 is) ∙ is' in cc)
     by_heads false is true is' fewer i shut rest = absurd (omega (arith, more_free p a places old false is, more_free p b places new true is', same, fewer))
     by_heads false is false is' fewer i shut rest = at_place (is ∙ sym is') (rest (omega (arith, more_free p a places old false is, more_free p b places new false is', same))) i shut
+same_free _ _ new long long' still same i shut = absurd (omega (arith, long))
 
 pub no_session_begins_lem : NoSessionBegins
 no_session_begins_lem old new tells tells' plan got long long' turns i shut = has_not (session_at new.sessions i) (same_free old.plan.places old.sessions new.sessions long long' still same i (ap has_begun shut))

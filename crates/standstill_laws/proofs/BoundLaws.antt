@@ -1,8 +1,7 @@
 -- How much a session sends at most, how much both its sides do, and how many messages an agent says and an outbox holds.
-use Rattle.std.proofs.Common.{◌≡◌, ℕ, ◌+◌, ◌*◌, ◌<◌, ◌≤◌, zero, suc, Bool, true, false, List, [], ◌∷◌, ◌++◌, length, length-append, append-nil, map, take, if◌then◌else◌, Option, Some, None, refl, sym, ap, ◌∙◌, subst, arith}
+use Rattle.std.proofs.Common.{◌≡◌, ℕ, ◌+◌, ◌*◌, ◌<◌, ◌≤◌, zero, suc, Bool, true, false, List, [], ◌∷◌, ◌++◌, length, length-append, append-nil, map, take, if◌then◌else◌, Option, Some, None, refl, sym, ap, ◌∙◌, subst, arith, lit<}
 use Rattle.std.specs.Prelude.{◌%◌, ◌^◌, decimal, min, filter, filter_map, ◌==◌, nat_lt, not, MatchBool, MatchOption}
 use Rattle.std.specs.Char.{to_ascii_uppercase}
-use Rattle.std.proofs.Common.{lit<}
 use Rattle.std.proofs.lemmas.Fmt.{length-decimal-le}
 use Rattle.std.proofs.lemmas.List.{length-map, length-take, map-append}
 use Rattle.std.proofs.lemmas.Bool.Decides.{nat_tests}
@@ -14,7 +13,7 @@ use Rattle.vchan_protocol.specs.History.Core.{Core}
 use Rattle.vchan_protocol.specs.Honest.Lawful.{Lawful}
 use Rattle.vchan_rule.specs.Seated.{view}
 use Rattle.qrexec_frame.specs.declared.message.Message.{Message}
-use Rattle.qrexec_frame.specs.declared.message.Message.TheVariants.{Hello, Stdin, Stdout, Stderr, ExitCode, Exec, JustExec, Connect, Refused, Terminated, Trigger3, Trigger}
+use Rattle.qrexec_frame.specs.declared.message.Message.TheVariants.{Hello, Stdin, ExitCode, Exec, Connect, Refused}
 use Rattle.qrexec_frame.specs.declared.kind.Channel.TheVariants.{Data}
 use Rattle.qrexec_frame.specs.Grammar.{Fault}
 use Rattle.qrexec_frame.specs.Fronts.{front, reading}
@@ -30,7 +29,7 @@ use Rattle.service_gate.specs.ServiceResult.{count_line, every_other}
 use Rattle.service_gate.specs.Owing.{state_owes, builtin_owes}
 use Rattle.service_gate.specs.declared.builtin.Builtin.{Builtin}
 use Rattle.service_gate.specs.declared.builtin.State.{State}
-use Rattle.service_gate.specs.declared.builtin.State.TheVariants.{Echo, Upper, Count, First, Split, Exit}
+use Rattle.service_gate.specs.declared.builtin.State.TheVariants.{Upper, Count, First, Split}
 use Rattle.qrexec_data.specs.declared.outcome.SessionFault.TheVariants.{AfterEnd}
 use Rattle.qrexec_data.specs.Pieces.{Stream, In, Out, Err, Piece, message_of, end_of, joined, has_ended, is_stream, ArePieces, is_input, is_output}
 use Rattle.qrexec_data.specs.Seeing.{Seen, Faulty, decided, offset, piece_first, sees_one, sees_on, sees_all, serving_sees, serving_use, number}
@@ -39,7 +38,7 @@ use Rattle.qrexec_data.proofs.MaySendLaws.{caller_may_send, serving_may_send, fl
 use Rattle.qrexec_data.proofs.PieceLaws.{the_messages}
 use Rattle.qrexec_data.specs.Laws.{IsVersion}
 use Rattle.call_broker.specs.declared.decision.Decision.{Decision}
-use Rattle.call_broker.specs.declared.decision.Decision.TheVariants.{Accepted, Refused as RefusedFor, Ended, PassedOver}
+use Rattle.call_broker.specs.declared.decision.Decision.TheVariants.{Accepted, Refused as RefusedFor}
 use Rattle.call_broker.specs.declared.event.Event.{Event}
 use Rattle.call_broker.specs.declared.event.Event.TheVariants as event
 use Rattle.call_broker.specs.Domains.{name_of}
@@ -61,8 +60,7 @@ piece_len p = by p.stream p.bytes
   where
     by : (stream : Stream) (bytes : List ℕ) → length (written (message_of (record { stream = stream; bytes = bytes }))) ≡ 8 + length bytes
     by In bytes = omega arith
-    by Out bytes = omega arith
-    by Err bytes = omega arith
+    by _ bytes = omega arith
 
 -- ---- pieces
 
@@ -81,9 +79,8 @@ joined_len stream p pieces = by (is_stream p.stream stream)
     by false = omega arith
 
 of_input : (stream : Stream) (n : ℕ) → is_input stream ≡ true → (if is_stream stream In then n else 0) ≡ n
-of_input In n is = refl
-of_input Out n is = cc
-of_input Err n is = cc
+of_input In n is = cc
+of_input _ n is = cc
 
 -- messages of a header and a piece each take nine times the pieces' bytes at most
 in_little : (limit : ℕ) (pieces : List Piece) → ArePieces is_input limit pieces → length (flat_map written (map message_of pieces)) ≤ 9 * length (joined In pieces)
@@ -111,8 +108,7 @@ out_little limit (p ∷ pieces) each =
   where
     one : (stream : Stream) (n : ℕ) → is_output stream ≡ true → (if is_stream stream Out then n else 0) + (if is_stream stream Err then n else 0) ≡ n
     one In n is = cc
-    one Out n is = omega arith
-    one Err n is = omega arith
+    one _ n is = omega arith
 
 -- ---- streams
 
@@ -226,22 +222,11 @@ sees_little (p ∷ placed) e before = by p.message (λ now. sees_little placed e
         input : (b : Bool) → length (joined In (if b then decided (Faulty (AfterEnd (offset p.at) (number (Stdin bytes)))) else piece_first piece (next (piece ∷ before))).pieces) ≤ length bytes + inputs_in (the_messages placed)
         input true = omega arith
         input false = let here = joined_len In piece (next (piece ∷ before)).pieces in omega (arith, here, rest (piece ∷ before))
-    by (Hello version) rest = omega arith
-    by (Stdout bytes) rest = omega arith
-    by (Stderr bytes) rest = omega arith
-    by (ExitCode code) rest = omega arith
-    by (Exec domain port line) rest = omega arith
-    by (JustExec domain port line) rest = omega arith
-    by (Connect domain port ident) rest = omega arith
-    by (Refused ident) rest = omega arith
-    by (Terminated domain port) rest = omega arith
-    by (Trigger3 target ident service) rest = omega arith
-    by (Trigger target ident service) rest = omega arith
+    by _ rest = omega arith
 
 take_little : (k : ℕ) (messages : List Message) → inputs_in (take k messages) ≤ inputs_in messages
-take_little zero messages = omega arith
-take_little (suc k) [] = omega arith
 take_little (suc k) (m ∷ messages) = let rest = take_little k messages in omega (arith, rest)
+take_little _ _ = omega arith
 
 input_len : (limit : ℕ) (pieces : List Piece) → ArePieces is_input limit pieces → inputs_in (map message_of (pieces ++ end_of In ∷ [])) ≡ length (joined In pieces)
 input_len limit [] each = refl
@@ -253,9 +238,8 @@ input_len limit (p ∷ pieces) each =
     omega (arith, here, front, own, rest)
   where
     one : (stream : Stream) (bytes : List ℕ) → is_input stream ≡ true → input_in (message_of (record { stream = stream; bytes = bytes })) ≡ length bytes
-    one In bytes is = refl
-    one Out bytes is = cc
-    one Err bytes is = cc
+    one In bytes is = cc
+    one _ bytes is = cc
 
 -- of a stream that begins with a greeting it sees no more than the input in the stream
 stream_little : (own : ℕ) (tail : List Message) (got : List ℕ) → IsVersion own → Each (IsGood Data) tail → IsPrefixOf got (flat_map written (Hello own ∷ tail)) → length (serving_sees got).input ≤ inputs_in tail
@@ -308,12 +292,11 @@ count_len n =
     omega (arith, digits, length-append (decimal (n % 2 ^ 64)) (10 ∷ []))
 
 owed_little : (state : State) (input : List ℕ) → length (state_owes state input).stdout + length (state_owes state input).stderr ≤ length input + 21
-owed_little Echo input = omega arith
 owed_little Upper input = omega (arith, length-map input to_ascii_uppercase)
 owed_little (Count taken) input = omega (arith, count_len (taken + length input))
 owed_little (First left) input = omega (arith, length-take left input)
 owed_little (Split to_stderr) input = omega (arith, split_len (not to_stderr) input)
-owed_little (Exit code) input = omega arith
+owed_little _ input = omega arith
 
 -- ---- both sides of a session
 
@@ -370,7 +353,4 @@ outboxes_hold_few_lem hub (x ∷ journal) d =
     put_few : (e : Event) (decision : Decision) → length (puts hub d e decision) ≤ 2
     put_few (event.Trigger from target service ident) (Accepted to port) = omega (arith, length-append (only_if (d == from) (Connect to port ident)) (only_if (d == to) (Exec from port (exec_line (cleaned_service service) (name_of hub from)))), if_few (d == from) (Connect to port ident), if_few (d == to) (Exec from port (exec_line (cleaned_service service) (name_of hub from))))
     put_few (event.Trigger from target service ident) (RefusedFor cause) = omega (arith, if_few (d == from) (Refused ident))
-    put_few (event.Trigger from target service ident) (Ended caller server port) = omega arith
-    put_few (event.Trigger from target service ident) PassedOver = omega arith
-    put_few (event.Terminated from other port) decision = omega arith
-    put_few (event.Dropped domain) decision = omega arith
+    put_few _ _ = omega arith

@@ -6,7 +6,7 @@ use Rattle.std.proofs.lemmas.Bool.Decides.{nat_tests}
 use Rattle.vchan_protocol.specs.declared.side.Side.{Side}
 use Rattle.qrexec_frame.specs.declared.kind.Channel.TheVariants.{Control}
 use Rattle.qrexec_frame.specs.declared.message.Message.{Message}
-use Rattle.qrexec_frame.specs.declared.message.Message.TheVariants.{Hello, Stdin, Stdout, Stderr, ExitCode, Exec, JustExec, Connect, Refused, Terminated, Trigger3, Trigger}
+use Rattle.qrexec_frame.specs.declared.message.Message.TheVariants.{Hello, Connect, Trigger3}
 use Rattle.qrexec_frame.specs.Messages.{written, IsSpellable, GoesOn}
 use Rattle.qrexec_frame.specs.Grammar.{Fault}
 use Rattle.qrexec_frame.specs.Fronts.{front, reading}
@@ -32,32 +32,12 @@ abbrev pub GoOn : (Message → Bool) → Type 0
 GoOn may = (m : Message) → may m ≡ true → GoesOn Control m
 
 to_broker_goes : GoOn to_broker
-to_broker_goes (Trigger3 target ident service) may = refl
-to_broker_goes (Trigger target ident service) may = refl
-to_broker_goes (Terminated domain port) may = refl
-to_broker_goes (Hello version) may = cc
-to_broker_goes (Stdin bytes) may = cc
-to_broker_goes (Stdout bytes) may = cc
-to_broker_goes (Stderr bytes) may = cc
-to_broker_goes (ExitCode code) may = cc
-to_broker_goes (Exec domain port line) may = cc
-to_broker_goes (JustExec domain port line) may = cc
-to_broker_goes (Connect domain port ident) may = cc
-to_broker_goes (Refused ident) may = cc
+to_broker_goes (Trigger3 target ident service) may = cc
+to_broker_goes _ may = cc
 
 to_agent_goes : GoOn to_agent
-to_agent_goes (Connect domain port ident) may = refl
-to_agent_goes (Refused ident) may = refl
-to_agent_goes (Exec domain port line) may = refl
-to_agent_goes (JustExec domain port line) may = refl
-to_agent_goes (Hello version) may = cc
-to_agent_goes (Stdin bytes) may = cc
-to_agent_goes (Stdout bytes) may = cc
-to_agent_goes (Stderr bytes) may = cc
-to_agent_goes (ExitCode code) may = cc
-to_agent_goes (Terminated domain port) may = cc
-to_agent_goes (Trigger3 target ident service) may = cc
-to_agent_goes (Trigger target ident service) may = cc
+to_agent_goes (Connect domain port ident) may = cc
+to_agent_goes _ may = cc
 
 pub all_good : (may : Message → Bool) → GoOn may → (said : List Message) → Each (λ m. (may m ≡ true) × IsSpellable m) said → Each (IsGood Control) said
 all_good may go [] each = tt
@@ -66,14 +46,13 @@ all_good may go (m ∷ said) each = ((each.0.1, go m each.0.0), all_good may go 
 all_allowed : (may : Message → Bool) (said : List Message) → Each (λ m. (may m ≡ true) × IsSpellable m) said → (placed : List (Placed Message)) → map (λ p. p.message) placed ≡ said
     → (allowed may placed ≡ said) × (first_fault may placed (Rest 0) ≡ None)
 all_allowed may [] each [] is = (refl, refl)
-all_allowed may [] each (p ∷ placed) is = cc
-all_allowed may (m ∷ said) each [] is = cc
 all_allowed may (m ∷ said) each (p ∷ placed) is =
     let this : p.message ≡ m = cc in
     let more : map (λ (q : Placed Message). q.message) placed ≡ said = cc in
     let yes : may p.message ≡ true = ap may this ∙ each.0.0 in
     let rest = all_allowed may said each.1 placed more in
     rw yes (rw (this, rest.0) refl, rest.1)
+all_allowed may _ each _ is = cc
 
 -- who got all of it has heard all
 hears_all : (own other : ℕ) (may : Message → Bool) → GoOn may → IsVersion other → (said : List Message) → Each (λ m. (may m ≡ true) × IsSpellable m) said

@@ -12,9 +12,9 @@ use Rattle.qrexec_frame.specs.declared.message.Message.{Message}
 use Rattle.qrexec_frame.specs.declared.message.Message.TheVariants as message
 use Rattle.qrexec_frame.specs.Names.{cleaned_service}
 use Rattle.call_broker.specs.declared.event.Event.{Event}
-use Rattle.call_broker.specs.declared.event.Event.TheVariants.{Trigger, Terminated, Dropped}
+use Rattle.call_broker.specs.declared.event.Event.TheVariants.{Trigger, Terminated}
 use Rattle.call_broker.specs.declared.decision.Decision.{Decision}
-use Rattle.call_broker.specs.declared.decision.Decision.TheVariants.{Accepted, Refused, Ended, PassedOver}
+use Rattle.call_broker.specs.declared.decision.Decision.TheVariants.{Accepted, Ended, PassedOver}
 use Rattle.call_broker.specs.declared.decision.Entry.{Entry}
 use Rattle.call_broker.specs.Domains.{Domains, is_domain, count_of, name_of, port_after}
 use Rattle.call_broker.specs.Pair.{Ordered, has, by_port, belongs, decision}
@@ -40,10 +40,9 @@ answer_told : (d from : ℕ) (target service ident : List ℕ) (decided : Decisi
 answer_told d from target service ident decided shown = by_answer (λ x. is_answer d (Trigger from target service ident) x ≡ (from == d)) (λ to port. refl) (λ cause. refl) decided shown
 
 other_told : (d from : ℕ) (target service ident : List ℕ) (decided : Decision) → (from == d) ≡ false → is_answer d (Trigger from target service ident) decided ≡ false
-other_told d from target service ident (Accepted to port) is = is
-other_told d from target service ident (Refused cause) is = is
 other_told d from target service ident (Ended a b port) is = refl
 other_told d from target service ident PassedOver is = refl
+other_told d from target service ident _ is = is
 
 abbrev counts : ℕ → Entry → Bool
 counts d x = is_answer d x.event x.decision
@@ -74,8 +73,7 @@ answered_asked hub d before (x ∷ journal) decided none up =
 
     by_event : (e : Event) → x.event ≡ e → answered journal d ≡ length (asked_in journal d) → answered (x ∷ journal) d ≡ length (asked_in (x ∷ journal) d)
     by_event (Trigger from target service ident) is rest = by_sender from target service ident is (from == d) refl rest
-    by_event (Terminated from other port) is rest = none_more (ap (λ (e : Event). is_answer d e x.decision) is) (ap (asked_event d) is) rest
-    by_event (Dropped domain) is rest = none_more (ap (λ (e : Event). is_answer d e x.decision) is) (ap (asked_event d) is) rest
+    by_event _ is rest = none_more (ap (λ (e : Event). is_answer d e x.decision) is) (ap (asked_event d) is) rest
 
 -- ---- the end of each session was read
 
@@ -121,11 +119,7 @@ exec_here hub d to p q (Trigger from target service ident) (Accepted other port)
         let put : list_any (λ m. is_its d p (session_asked m)) (only_if (to == other) exec) ≡ true = rw (here, its) refl in
         any_append (λ m. is_its d p (session_asked m)) (only_if (to == from) connect) (only_if (to == other) exec)
         ∙ or_right (list_any (λ m. is_its d p (session_asked m)) (only_if (to == from) connect)) (list_any (λ m. is_its d p (session_asked m)) (only_if (to == other) exec)) put
-exec_here hub d to p q (Trigger from target service ident) (Refused cause) is same = cc
-exec_here hub d to p q (Trigger from target service ident) (Ended a b port) is same = cc
-exec_here hub d to p q (Trigger from target service ident) PassedOver is same = cc
-exec_here hub d to p q (Terminated from other port) decided is same = cc
-exec_here hub d to p q (Dropped domain) decided is same = cc
+exec_here hub d to p q _ _ is same = cc
 
 exec_put : (hub : Domains) (d to p : ℕ) (journal : List Entry) → has p (accepted_ports journal d to) ≡ true → list_any (λ m. is_its d p (session_asked m)) (outbox hub journal to) ≡ true
 exec_put hub d to p [] some = some
@@ -152,17 +146,7 @@ is_end t d p event = false
 
 told_event : (t : ℕ) (m : Message) (s : ℕ × ℕ) → session_told m ≡ Some s → event_of t m ≡ Some (Terminated t s.0 s.1)
 told_event t (message.Terminated o p) s is = let same : (o, p) ≡ s = cc in ap (λ (x : ℕ × ℕ). Some (Terminated t x.0 x.1)) same
-told_event t (message.Trigger3 a b c) s is = cc
-told_event t (message.Trigger a b c) s is = cc
-told_event t (message.Hello v) s is = cc
-told_event t (message.Exec a b c) s is = cc
-told_event t (message.JustExec a b c) s is = cc
-told_event t (message.Connect a b c) s is = cc
-told_event t (message.Refused i) s is = cc
-told_event t (message.Stdin b) s is = cc
-told_event t (message.Stdout b) s is = cc
-told_event t (message.Stderr b) s is = cc
-told_event t (message.ExitCode c) s is = cc
+told_event t _ s is = cc
 
 told_read : (t d p : ℕ) (sent : List Message) → list_any (is_session d p) (filter_map session_told sent) ≡ true → list_any (is_end t d p) (filter_map (event_of t) sent) ≡ true
 told_read t d p [] some = some
@@ -207,8 +191,7 @@ end_is t d p (Terminated from other port) is =
     let b : other ≡ d = grind (arith, nat_tests, two.0) in
     let c : port ≡ p = grind (arith, nat_tests, two.1) in
     ap (λ (x : ℕ). Terminated x other port) a ∙ (ap (λ (x : ℕ). Terminated t x port) b ∙ ap (λ (x : ℕ). Terminated t d x) c)
-end_is t d p (Trigger from target service ident) is = cc
-end_is t d p (Dropped domain) is = cc
+end_is t d p _ is = cc
 
 read_ended : (hub : Domains) (d t p : ℕ) (journal : List Entry) → belongs hub (Ordered d t) (Terminated t d p) ≡ true → list_any (is_end t d p) (events journal) ≡ true → has p (ended_ports hub journal d t) ≡ true
 read_ended hub d t p [] own some = some
@@ -244,11 +227,7 @@ port_here hub f t p q (Trigger from target service ident) (Accepted other port) 
         let b : other ≡ t = grind (arith, nat_tests, parts.1) in
         let c : q ≡ p = grind (arith, nat_tests, same) in
         subst (λ (x : ℕ). IsPortOfPair f t x) (port_is ∙ c) (subst (λ (x : ℕ). IsPortOfPair f x port) b (subst (λ (x : ℕ). IsPortOfPair x other port) a (record { apart = well.apart; call = well.call; port_is = well.port_is })))
-port_here hub f t p q (Trigger from target service ident) (Refused cause) well is same = cc
-port_here hub f t p q (Trigger from target service ident) (Ended a b port) well is same = cc
-port_here hub f t p q (Trigger from target service ident) PassedOver well is same = cc
-port_here hub f t p q (Terminated from other port) decided well is same = cc
-port_here hub f t p q (Dropped domain) decided well is same = cc
+port_here hub f t p q _ _ well is same = cc
 
 pub port_of : (hub : Domains) (f t p : ℕ) (journal : List Entry) → Each (λ x. AcceptsWell hub x.event x.decision) journal → has p (accepted_ports journal f t) ≡ true → IsPortOfPair f t p
 port_of hub f t p [] well some = cc

@@ -61,10 +61,9 @@ has_place a (x ∷ xs) (inl here) = record { at = 0; is = ap (λ (y : Asking). S
 has_place a (x ∷ xs) (inr there) = let h = has_place a xs there in record { at = suc h.at; is = h.is; less = omega (arith, h.less) }
 
 get_taken : {A : Type 0} (n : ℕ) (xs : List A) (i : ℕ) (x : A) → slice_get (take n xs) i ≡ Some x → slice_get xs i ≡ Some x
-get_taken zero xs i x there = cc
-get_taken (suc n) [] i x there = cc
 get_taken (suc n) (y ∷ xs) zero x there = there
 get_taken (suc n) (y ∷ xs) (suc i) x there = get_taken n xs i x there
+get_taken _ _ i x there = cc
 
 has_get : {A : Type 0} (xs : List A) (i : ℕ) (x : A) → slice_get xs i ≡ Some x → Has xs x
 has_get [] i x there = cc
@@ -72,8 +71,6 @@ has_get (y ∷ xs) zero x there = inl (let same : y ≡ x = cc in same)
 has_get (y ∷ xs) (suc i) x there = inr (has_get xs i x there)
 
 same_place : (xs : List (List ℕ)) (i j : ℕ) (w : List ℕ) → AreDifferent xs → slice_get xs i ≡ Some w → slice_get xs j ≡ Some w → i ≡ j
-same_place [] i j w differ here there = cc
-same_place (x ∷ xs) zero zero w differ here there = refl
 same_place (x ∷ xs) zero (suc j) w differ here there =
     let same : x ≡ w = cc in
     absurd (each_at (λ (y : List ℕ). x ≢ y) xs w differ.0 (has_get xs j w there) same)
@@ -81,6 +78,7 @@ same_place (x ∷ xs) (suc i) zero w differ here there =
     let same : x ≡ w = cc in
     absurd (each_at (λ (y : List ℕ). x ≢ y) xs w differ.0 (has_get xs i w here) same)
 same_place (x ∷ xs) (suc i) (suc j) w differ here there = ap suc (same_place xs i j w differ.1 here there)
+same_place _ _ _ w differ here there = cc
 
 -- ---- entries
 

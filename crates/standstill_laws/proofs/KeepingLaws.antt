@@ -6,7 +6,7 @@ use Rattle.ring_words.specs.declared.page.Ring.{Ring}
 use Rattle.ring_words.specs.declared.page.Ring.TheVariants.{Left, Right}
 use Rattle.ring_words.specs.declared.order.Orders.{Orders}
 use Rattle.vchan_protocol.specs.Table.Ends.{Standing, prod_word, cons_word, peer_live, peer_gone, low8, read_ring, written_ring}
-use Rattle.vchan_protocol.specs.Answering.Loads.{Loads}
+use Rattle.vchan_protocol.specs.Answering.Loads.{Loads, loads_of}
 use Rattle.vchan_protocol.specs.History.Core.{Core, standing_of}
 use Rattle.vchan_protocol.specs.History.Page.{live_word}
 use Rattle.vchan_protocol.specs.Honest.Lawful.{Lawful}
@@ -16,8 +16,7 @@ use Rattle.ring_words.specs.Rings.{size}
 use Rattle.ring_words.specs.Page.{order_of}
 use Rattle.vchan_rule.specs.Seated.{SeatedEnd}
 use Rattle.agent_control.specs.declared.control.AgentControl.{AgentControl}
-use Rattle.broker_task.specs.Moving.{BrokerLine, SaysNothing, has_not_greeted, all_held, greeting_waits, letter_waits}
-use Rattle.vchan_protocol.specs.Answering.Loads.{loads_of}
+use Rattle.broker_task.specs.Moving.{BrokerLine, SaysNothing, greeting_waits, letter_waits}
 use Rattle.vchan_packet.specs.Packet.{FailsToSend}
 use Rattle.vchan_packet.specs.declared.SendAnswer.{SendAnswer}
 use Rattle.vchan_packet.specs.declared.SendAnswer.TheVariants.{Sent, NoRoom, PeerClosed}
@@ -94,10 +93,9 @@ stops_still before now rested indices live calls old new (AtTheLimit none next) 
 stops_still before now rested indices live calls old new (AtATrigger none back) still = holds_back_still before now rested indices live old new back still
 
 says_nothing_still : (before now : Core) → PageRested before now → IndicesStay before now → LivesStay before now → (line : BrokerLine) (old new : SeatedEnd) (s : SaysNothing line.version line.greeted line.letters old new) → SaysNothingStill before line old new s → SaysNothingStill now line old new s
-says_nothing_still before now rested indices live line old new (has_not_greeted none same) still = tt
-says_nothing_still before now rested indices live line old new (all_held greets held same) still = tt
 says_nothing_still before now rested indices live line old new (greeting_waits none same fails) still = fails_still before now rested indices live Client (written (Hello broker_version)) old new fails still
 says_nothing_still before now rested indices live line old new (letter_waits at l greets there ready was same fails) still = fails_still before now rested indices live Client (written l.message) old new fails still
+says_nothing_still before now rested indices live line old new _ still = tt
 
 pub findings_stay_lem : FindingsStay
 findings_stay_lem before now old new rested = record {

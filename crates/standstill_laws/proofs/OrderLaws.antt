@@ -12,7 +12,7 @@ use Rattle.list_laws.proofs.Each.{each_front, each_back}
 use Rattle.qrexec_frame.specs.declared.message.Message.{Message}
 use Rattle.qrexec_frame.specs.declared.message.Message.TheVariants as message
 use Rattle.call_broker.specs.declared.event.Event.{Event}
-use Rattle.call_broker.specs.declared.event.Event.TheVariants.{Trigger, Terminated, Dropped}
+use Rattle.call_broker.specs.declared.event.Event.TheVariants.{Trigger, Terminated}
 use Rattle.call_broker.specs.declared.decision.Decision.{Decision}
 use Rattle.call_broker.specs.declared.decision.Decision.TheVariants.{Accepted}
 use Rattle.call_broker.specs.declared.decision.Entry.{Entry}
@@ -56,10 +56,7 @@ told_answered heard ident answer (a ∷ asked) told each = (by_wait (waits_as id
     by_wait false waits = each.0
 
 told_takes : (heard : List Message) (d : ℕ) (a : Answers) (m : Message) → Has heard m → Each (WasTold heard) a.asked → Each (WasTold heard) (takes d a m).asked
-told_takes heard d a (message.Refused ident) there each = told_answered heard ident IsRefused a.asked (λ to port is. absurd (never to port is)) each
-  where
-    never : (to port : ℕ) → IsRefused ≡ At to port → ⊥
-    never to port is = cc
+told_takes heard d a (message.Refused ident) there each = told_answered heard ident IsRefused a.asked (λ to port is. cc) each
 told_takes heard d a (message.Connect to port ident) there each = by_test (list_any (waits_as ident) a.asked && has_place (Payload d to port) a.unused)
   where
     told : (to' port' : ℕ) → At to port ≡ At to' port' → Has heard (message.Connect to' port' ident)
@@ -81,15 +78,7 @@ told_takes heard d a (message.Exec from port line) there each = by_service (serv
     by_service : (o : Option (List ℕ)) → Each (WasTold heard) (serves d from port o a).asked
     by_service None = each
     by_service (Some name) = by_place name (has_place (Payload from d port) a.unused)
-told_takes heard d a (message.Hello v) there each = each
-told_takes heard d a (message.JustExec x p l) there each = each
-told_takes heard d a (message.Terminated o p) there each = each
-told_takes heard d a (message.Trigger3 t i s) there each = each
-told_takes heard d a (message.Trigger t i s) there each = each
-told_takes heard d a (message.Stdin b) there each = each
-told_takes heard d a (message.Stdout b) there each = each
-told_takes heard d a (message.Stderr b) there each = each
-told_takes heard d a (message.ExitCode c) there each = each
+told_takes heard d a _ there each = each
 
 told_all : (heard : List Message) (d : ℕ) (a : Answers) (ms : List Message) → ((m : Message) → Has ms m → Has heard m) → Each (WasTold heard) a.asked → Each (WasTold heard) (takes_all d a ms).asked
 told_all heard d a [] there each = each
@@ -97,10 +86,7 @@ told_all heard d a (m ∷ ms) there each = told_all heard d (takes d a m) ms (λ
 
 none_told : (heard : List Message) (calls : List CallPlan) → Each (WasTold heard) (map (λ call. record { call = call; answer = Waits }) calls)
 none_told heard [] = tt
-none_told heard (c ∷ calls) = (λ to port is. absurd (never to port is), none_told heard calls)
-  where
-    never : (to port : ℕ) → Waits ≡ At to port → ⊥
-    never to port is = cc
+none_told heard (c ∷ calls) = (λ to port is. cc, none_told heard calls)
 
 pub was_told : (plan : AgentPlan) (heard : List Message) → Each (WasTold heard) (answers plan heard).asked
 was_told plan heard = told_all heard plan.domain (nothing_heard plan) heard (λ m h. h) (none_told heard plan.calls)
@@ -142,27 +128,17 @@ by_answer_at : (a : Asked) (other port : ℕ) → session_of_answer a.answer ≡
 by_answer_at a other port is = by_answer a.answer refl is
   where
     by_answer : (x : Answer) → a.answer ≡ x → session_of_answer x ≡ Some (other, port) → x ≡ At other port
-    by_answer Waits same is = cc
-    by_answer IsRefused same is = cc
     by_answer (At to p) same is =
         let pair : (to, p) ≡ (other, port) = cc in
         ap (λ (x : ℕ × ℕ). At x.0 x.1) pair
+    by_answer _ same is = cc
 
 asked_accepted : (hub : Domains) (journal : List Entry) (d other port : ℕ) (m : Message) → Has (outbox hub journal d) m → session_asked m ≡ Some (other, port) → has port (accepted_ports journal other d) ≡ true
 asked_accepted hub journal d other port (message.Exec from p line) there is =
     let pair : (from, p) ≡ (other, port) = cc in
     exec_accepted hub journal d other port line (subst (λ (x : ℕ × ℕ). Has (outbox hub journal d) (message.Exec x.0 x.1 line)) pair there)
 asked_accepted hub journal d other port (message.JustExec from p line) there is = absurd (put_by_entry hub journal d (message.JustExec from p line) there).is
-asked_accepted hub journal d other port (message.Hello v) there is = cc
-asked_accepted hub journal d other port (message.Connect x p i) there is = cc
-asked_accepted hub journal d other port (message.Refused i) there is = cc
-asked_accepted hub journal d other port (message.Terminated o p) there is = cc
-asked_accepted hub journal d other port (message.Trigger3 t i s) there is = cc
-asked_accepted hub journal d other port (message.Trigger t i s) there is = cc
-asked_accepted hub journal d other port (message.Stdin b) there is = cc
-asked_accepted hub journal d other port (message.Stdout b) there is = cc
-asked_accepted hub journal d other port (message.Stderr b) there is = cc
-asked_accepted hub journal d other port (message.ExitCode c) there is = cc
+asked_accepted hub journal d other port _ there is = cc
 
 pub let_through : (hub : Domains) (journal : List Entry) (d other port : ℕ) → IsReportOf hub journal d other port → IsLetThrough journal d other port
 let_through hub journal d other port r = by_part (has_append (filter_map (λ a. session_of_answer a.answer) asked) (filter_map session_asked r.heard) (other, port) r.owed)
@@ -313,8 +289,7 @@ in_order hub journal f t well differ grown done (x ∷ rest) is = (
 
     by_event : (e : Event) → x.event ≡ e → (p : ℕ) → ended_port hub f t e ≡ Some p → has p (accepted_ports rest f t) ≡ false
     by_event (Terminated d other port) event p ended = by_own d other port event (belongs hub (Ordered f t) (Terminated d other port)) refl p ended
-    by_event (Trigger from target service ident) event p ended = cc
-    by_event (Dropped domain) event p ended = cc
+    by_event _ event p ended = cc
 
 pub ends_come_in_order_lem : EndsComeInOrder
 ends_come_in_order_lem hub journal f t decided grown =

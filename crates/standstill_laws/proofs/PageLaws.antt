@@ -145,8 +145,7 @@ live_told core l Client = l.lives.server_words.live
 
 zero_is_shut : (state : EndState) → low8 (live_word state) ≡ 0 → state ≡ Shut
 zero_is_shut Fresh is = cc
-zero_is_shut Open is = cc
-zero_is_shut Shut is = refl
+zero_is_shut _ is = cc
 
 found_shut : (core : Core) → Lawful core → (who : Role) → FoundPeerShut core who → (side_of core (peer who)).state ≡ Shut
 found_shut core l who f =

@@ -1,8 +1,7 @@
 -- What is said on all control channels costs no more than the calls of the domains do, whatever a message costs.
-use Rattle.std.proofs.Common.{◌≡◌, ℕ, ◌+◌, ◌<◌, ◌≤◌, ◌==◌, Bool, true, false, List, [], ◌∷◌, ◌++◌, length, map, take, drop, if◌then◌else◌, Option, Some, None, refl, sym, ◌∙◌, subst, arith}
+use Rattle.std.proofs.Common.{◌≡◌, ℕ, ◌+◌, ◌<◌, ◌≤◌, ◌==◌, Bool, true, false, List, [], ◌∷◌, ◌++◌, length, map, take, drop, if◌then◌else◌, Option, Some, None, refl, sym, ◌∙◌, subst, arith, lit<}
 use Rattle.std.specs.Prelude.{◌&&◌, nat_le, filter_map}
 use Rattle.std.specs.List.{sum_by, cons_option, list_any, AllByRecursion as Each}
-use Rattle.std.proofs.Common.{lit<}
 use Rattle.std.proofs.lemmas.Bool.{and_parts}
 use Rattle.std.proofs.lemmas.Bool.Decides.{nat_tests}
 use Rattle.std.proofs.lemmas.List.{length-map, take-append-drop}
@@ -12,7 +11,7 @@ use Rattle.list_laws.proofs.Each.{each_weaker}
 use Rattle.list_laws.proofs.Prefixes.{prefix_trans}
 use Rattle.vchan_protocol.specs.History.Core.{Core}
 use Rattle.qrexec_frame.specs.declared.message.Message.{Message}
-use Rattle.qrexec_frame.specs.declared.message.Message.TheVariants.{Hello, Stdin, Stdout, Stderr, ExitCode, Exec, JustExec, Connect, Refused, Terminated, Trigger3, Trigger}
+use Rattle.qrexec_frame.specs.declared.message.Message.TheVariants.{Exec, Connect, Refused, Terminated, Trigger3, Trigger}
 use Rattle.qrexec_frame.specs.Messages.{IsSpellable}
 use Rattle.qrexec_frame.specs.Names.{cleaned_service}
 use Rattle.call_broker.specs.declared.decision.Entry.{Entry}
@@ -106,15 +105,7 @@ module _ (cost : Message → ℕ) (ask : Asking → ℕ) (report : ℕ) (reply :
           let one = sum_by-cons cost (Terminated domain port) said in
           let told = sum_by-cons (λ (s : ℕ × ℕ). report) (domain, port) (filter_map session_told said) in
           omega (arith, few, one, told, prices.terminated domain port)
-      by (Hello version) may few = cc
-      by (Stdin bytes) may few = cc
-      by (Stdout bytes) may few = cc
-      by (Stderr bytes) may few = cc
-      by (ExitCode code) may few = cc
-      by (Exec domain port line) may few = cc
-      by (JustExec domain port line) may few = cc
-      by (Connect domain port ident) may few = cc
-      by (Refused ident) may few = cc
+      by _ may few = cc
 
   -- ---- what is said to an agent, each Exec with the report to which it leads
 
@@ -141,8 +132,7 @@ module _ (cost : Message → ℕ) (ask : Asking → ℕ) (report : ℕ) (reply :
 
   abbrev bill : Domains → Event → ℕ
   bill hub (event.Trigger from target service ident) = reply (name_of hub from) (asks_for target ident service)
-  bill hub (event.Terminated from other port) = 0
-  bill hub (event.Dropped domain) = 0
+  bill hub _ = 0
 
   only_costs : (b : Bool) (m : Message) → sum_by whole (only_if b m) ≡ (if b then whole m else 0)
   only_costs true m = omega arith
@@ -204,8 +194,7 @@ module _ (cost : Message → ℕ) (ask : Asking → ℕ) (report : ℕ) (reply :
       let some : 1 ≤ from = grind (arith, nat_tests, parts.0) in
       let within : from ≤ count_of hub = grind (arith, nat_tests, parts.1) in
       has_one (count_of hub) from (bill hub (event.Trigger from target service ident)) some within
-  read_of_one hub (event.Terminated from other port) numbered = omega arith
-  read_of_one hub (event.Dropped domain) numbered = omega arith
+  read_of_one hub _ numbered = omega arith
 
   read_of_all : (hub : Domains) (journal : List Entry) → AreNumbered hub journal → sum_by (bill hub) (events journal) ≤ sum_below (count_of hub) (λ place. sum_by (bill hub) (read_from journal (place + 1)))
   read_of_all hub [] numbered = omega arith
@@ -232,15 +221,7 @@ module _ (cost : Message → ℕ) (ask : Asking → ℕ) (report : ℕ) (reply :
       by (Trigger target ident service) rest =
           omega (arith, rest, sum_by-cons (bill hub) (event.Trigger d target service ident) (filter_map (event_of d) heard), sum_by-cons (reply (name_of hub d)) (asks_for target ident service) (filter_map asking heard))
       by (Terminated domain port) rest = omega (arith, rest, sum_by-cons (bill hub) (event.Terminated d domain port) (filter_map (event_of d) heard))
-      by (Hello version) rest = rest
-      by (Stdin bytes) rest = rest
-      by (Stdout bytes) rest = rest
-      by (Stderr bytes) rest = rest
-      by (ExitCode code) rest = rest
-      by (Exec domain port line) rest = rest
-      by (JustExec domain port line) rest = rest
-      by (Connect domain port ident) rest = rest
-      by (Refused ident) rest = rest
+      by _ rest = rest
 
   -- ---- one control page
 

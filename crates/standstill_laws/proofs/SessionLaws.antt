@@ -17,7 +17,7 @@ use Rattle.qrexec_frame.specs.Streams.{Front, Whole, Placed, Ending, Rest, read_
 use Rattle.qrexec_frame.proofs.StreamLaws.{reads_all}
 use Rattle.qrexec_frame.proofs.GrammarLaws.{is_prefix_code}
 use Rattle.qrexec_frame.proofs.WrittenLaws.{is_read_again}
-use Rattle.qrexec_data.specs.Pieces.{Stream, In, Out, Err as Errors, Piece, message_of, end_of, has_ended, ArePieces, is_input, is_stream, no_bytes}
+use Rattle.qrexec_data.specs.Pieces.{Stream, In, Piece, message_of, end_of, has_ended, ArePieces, is_input, is_stream, no_bytes}
 use Rattle.qrexec_data.specs.Seeing.{Carries, sees_on, sees_all, seen_by, serving_use}
 use Rattle.qrexec_data.specs.Sending.{agreed_by, most}
 use Rattle.qrexec_data.specs.Requests.{SendsRequests, SendsInput, end_if}
@@ -56,8 +56,7 @@ stdin_good p reads least = by_stream p.stream reads
   where
     by_stream : (s : Stream) → is_input s ≡ true → IsGood Data (message_of (record { stream = s; bytes = p.bytes }))
     by_stream In reads = ((least, tt), refl)
-    by_stream Out reads = cc
-    by_stream Errors reads = cc
+    by_stream _ reads = cc
 
 pub input_good : (limit : ℕ) → limit ≤ 65536 → (pieces : List Piece) → ArePieces is_input limit pieces → Each (IsGood Data) (map message_of (pieces ++ end_of In ∷ []))
 input_good limit least [] each = (stdin_good (end_of In) refl (omega arith), tt)

@@ -7,7 +7,7 @@ use Rattle.std.proofs.lemmas.List.{append-nil}
 use Rattle.call_broker.specs.declared.event.Event.{Event}
 use Rattle.call_broker.specs.declared.event.Event.TheVariants.{Trigger, Terminated, Dropped}
 use Rattle.call_broker.specs.declared.decision.Decision.{Decision}
-use Rattle.call_broker.specs.declared.decision.Decision.TheVariants.{Accepted, Refused, Ended, PassedOver}
+use Rattle.call_broker.specs.declared.decision.Decision.TheVariants.{Accepted, Ended, PassedOver}
 use Rattle.call_broker.specs.declared.decision.Entry.{Entry}
 use Rattle.call_broker.specs.Domains.{Domains}
 use Rattle.call_broker.specs.Pair.{Pair, PairState, Ordered, has, is_pair, pair_of, belongs, decides, settles, step, state_after, decision}
@@ -51,13 +51,10 @@ none_has (x ∷ xs) none = absurd (first (none x))
 settles_none : (s : PairState) (e : Event) (x : Decision) (p : ℕ) → has p s.live ≡ false → ((to port : ℕ) → x ≡ Accepted to port → (port == p) ≡ false) → has p (settles s e x).live ≡ false
 settles_none s (Dropped domain) x p none apart = refl
 settles_none s (Trigger from target service ident) (Accepted to port) p none apart = rw (apart to port refl) none
-settles_none s (Trigger from target service ident) (Refused cause) p none apart = none
 settles_none s (Trigger from target service ident) (Ended a b q) p none apart = still_none p q s.live none
-settles_none s (Trigger from target service ident) PassedOver p none apart = none
 settles_none s (Terminated from other r) (Accepted to port) p none apart = rw (apart to port refl) none
-settles_none s (Terminated from other r) (Refused cause) p none apart = none
 settles_none s (Terminated from other r) (Ended a b q) p none apart = still_none p q s.live none
-settles_none s (Terminated from other r) PassedOver p none apart = none
+settles_none s _ _ p none apart = none
 
 -- a call of the pair that is let through has its port in the journal
 accepts_in : (hub : Domains) (before : List Event) (f t : ℕ) (e : Event) (to port : ℕ) → pair_of hub e ≡ Ordered f t → decision hub before e ≡ Accepted to port → port_in f t e (Accepted to port) ≡ Some port
@@ -157,9 +154,8 @@ ended_none hub f t before (x ∷ journal) p decided order up ended =
     by_own from other port is false own h rest = rest h
 
     by_event : (e : Event) → x.event ≡ e → has p (cons_option (ended_port hub f t e) (ended_ports hub journal f t)) ≡ true → (has p (ended_ports hub journal f t) ≡ true → Goal) → Goal
-    by_event (Trigger from target service ident) is h rest = rest h
-    by_event (Dropped domain) is h rest = rest h
     by_event (Terminated from other port) is h rest = by_own from other port is (belongs hub (Ordered f t) (Terminated from other port)) refl h rest
+    by_event _ is h rest = rest h
 
 pub no_call_is_live_lem : NoCallIsLive
 no_call_is_live_lem hub journal f t decided up order ended = none_has (state_after hub (events journal) (Ordered f t)).live (λ p. by_accepted p (has p (accepted_ports journal f t)) refl)

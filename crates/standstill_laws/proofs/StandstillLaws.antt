@@ -13,7 +13,7 @@ use Rattle.call_broker.specs.Journal.{IsJournal, is_dropped}
 use Rattle.task_duties.specs.Broker.Outbox.{outbox, event_of}
 use Rattle.control_port.specs.declared.talk.Talker.TheVariants.{Agent}
 use Rattle.call_queue.specs.Queue.{IsHeld}
-use Rattle.data_slots.specs.Sessions.{Session, NotBegun, CallsWith, AwaitsPage, ServesWith, EndedWith, is_open, has_ended, session_at}
+use Rattle.data_slots.specs.Sessions.{Session, NotBegun, is_open, has_ended, session_at}
 use Rattle.agent_control.specs.declared.control.AgentControl.{AgentControl}
 use Rattle.agent_task.specs.State.{AgentState, IsChannelOf, IsOpenSession, answers_so_far}
 use Rattle.broker_task.specs.Moving.{BrokerLine}
@@ -36,11 +36,8 @@ use Rattle.qrexec_data.specs.Laws.{IsVersion}
 -- ---- sessions
 
 ended_shut : (s : Session) → has_ended s ≡ true → is_open s ≡ false
-ended_shut NotBegun is = refl
-ended_shut (CallsWith at) is = cc
-ended_shut AwaitsPage is = cc
-ended_shut (ServesWith at) is = cc
-ended_shut (EndedWith end) is = refl
+ended_shut NotBegun is = cc
+ended_shut _ is = cc
 
 rests_shut : (version : ℕ) (s : Session) → IsVersion version → SessionStandsStill version s → is_open s ≡ false
 rests_shut version s own (IsShut is) = is

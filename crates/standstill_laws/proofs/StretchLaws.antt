@@ -17,7 +17,7 @@ use Rattle.channel_session.specs.declared.pause.Turned.{Turned}
 use Rattle.channel_session.specs.declared.pause.Turned.TheVariants.{Moved, Quiet, Passed}
 use Rattle.channel_session.specs.Calling.{CallerAt, CallerTurns}
 use Rattle.channel_session.specs.Answering.{ServingAt, ServingTurns, EndsBy}
-use Rattle.data_slots.specs.Sessions.{Session, NotBegun, CallsWith, AwaitsPage, ServesWith, EndedWith, session_at, got_in, sent_in}
+use Rattle.data_slots.specs.Sessions.{Session, CallsWith, ServesWith, session_at, got_in, sent_in}
 use Rattle.data_slots.specs.Agreeing.{SessionStands}
 use Rattle.agent_control.specs.declared.control.AgentControl.{AgentControl}
 use Rattle.agent_task.specs.State.{AgentState}
@@ -27,7 +27,7 @@ use Rattle.broker_task.specs.Lines.{is_begun, is_shut}
 use Rattle.broker_task.specs.Moving.{BrokerLine}
 use Rattle.broker_task.proofs.Lists.{at_one}
 use Rattle.domain_task.specs.declared.task.Task.{Task}
-use Rattle.domain_task.specs.declared.task.Task.TheVariants.{Agent, Broker, Hostile}
+use Rattle.domain_task.specs.declared.task.Task.TheVariants.{Agent, Broker}
 use Rattle.domain_task.specs.Working.{DoesNothing, ChannelRests, IsUp, WasOver, IsStill, SessionRests, CallerRests, ServingRests, PageAwaited, HasNotBegun, HadEnded, Rests}
 use Rattle.standstill_laws.specs.Counting.{tasks_after, NoneIsMade, OneIsMade}
 use Rattle.standstill_laws.specs.Keeping.{EndRested, PageRested}
@@ -96,44 +96,34 @@ session_rested task last (OneTurn before now last' nothing rest) a i is page = b
 
     by_now : (now : Task) → ((n : AgentState) → now ≡ Agent n → HasPage (session_at n.sessions i) → SessionRested n last i) → DoesNothing (Agent a) now → SessionRested a last i
     by_now (Agent n) on rests = let one = session_same (session_at a.sessions i) (session_at n.sessions i) (rests.sessions i) page in joined n one.1 (on n refl one.0)
-    by_now (Broker b) on rests = absurd rests
-    by_now (Hostile h) on rests = absurd rests
+    by_now _ on rests = absurd rests
 
 -- ---- the end of a session
 
 has_page : (s : Session) (side : Side) → HasEnd s side → HasPage s
-has_page NotBegun side h = absurd h
 has_page (CallsWith at) side h = tt
-has_page AwaitsPage side h = absurd h
 has_page (ServesWith at) side h = tt
-has_page (EndedWith end) side h = absurd h
+has_page _ side h = absurd h
 
 end_bytes : (s : Session) (side : Side) → HasEnd s side → (got_in s ≡ side.got) × (sent_in s ≡ side.sent)
-end_bytes NotBegun side h = absurd h
 end_bytes (CallsWith at) side h = (ap (λ (s : Side). s.got) h, ap (λ (s : Side). s.sent) h)
-end_bytes AwaitsPage side h = absurd h
 end_bytes (ServesWith at) side h = (ap (λ (s : Side). s.got) h, ap (λ (s : Side). s.sent) h)
-end_bytes (EndedWith end) side h = absurd h
+end_bytes _ side h = absurd h
 
 end_open : (version : ℕ) (s : Session) (side : Side) → SessionStands version s → IsUndecided s → HasEnd s side → side.state ≡ Open
-end_open version NotBegun side stands none h = absurd h
 end_open version (CallsWith at) side stands none h = sym (ap (λ (s : Side). s.state) h) ∙ stands.0.is_open.1
-end_open version AwaitsPage side stands none h = absurd h
 end_open version (ServesWith at) side stands none h =
     let ends : EndsBy None (view at.end) = subst (λ (o : Option Outcome). EndsBy o (view at.end)) none stands.0.ends in
     sym (ap (λ (s : Side). s.state) h) ∙ ends.0
-end_open version (EndedWith end) side stands none h = absurd h
+end_open version _ side stands none h = absurd h
 
 -- ---- an end of a lawful page
 
 open_stays : (core : Core) (who : Role) → WordsTell core who → (side_of core who).state ≡ Open → (side_of core who).retired ≡ false
 open_stays core who tells up = by_retired (side_of core who).retired refl
   where
-    never : Shut ≡ Open → ⊥
-    never e = cc
-
     by_retired : (b : Bool) → (side_of core who).retired ≡ b → (side_of core who).retired ≡ false
-    by_retired true is = absurd (never (sym (tells.gone.shut is) ∙ up))
+    by_retired true is = let shut = sym (tells.gone.shut is) ∙ up in cc
     by_retired false is = is
 
 -- the two ends at one moment: they are open
@@ -171,8 +161,7 @@ record Holder (task : Task) (i : ℕ) (side : Side) : Type 0 where
 
 holder : (task : Task) (i : ℕ) (side : Side) → HoldsEnd task i side → Holder task i side
 holder (Agent a) i side h = record { agent = a; is = refl; end = h.2; up = end_open a.plan.version (session_at a.sessions i) side h.0 h.1 h.2 }
-holder (Broker b) i side h = absurd h
-holder (Hostile t) i side h = absurd h
+holder _ i side h = absurd h
 
 same_agent : (a b : AgentState) → Agent a ≡ Agent b → a ≡ b
 same_agent a b e = cc
@@ -233,8 +222,7 @@ channel_rested task last (OneTurn before now last' nothing rest) a c is up chann
 
     by_now : (now : Task) → ((n : AgentState) (d : AgentControl) → now ≡ Agent n → n.over ≡ None → n.channel ≡ Some d → ChannelRested d last) → DoesNothing (Agent a) now → ChannelRested c last
     by_now (Agent n) on rests = let one = next_channel a n c rests.channel up channel in joined one.channel one.same (on n one.channel refl one.up one.channel_is)
-    by_now (Broker b) on rests = absurd rests
-    by_now (Hostile h) on rests = absurd rests
+    by_now _ on rests = absurd rests
 
 -- the agent of a held end
 record ControlHolder (task : Task) (side : Side) : Type 0 where
@@ -248,8 +236,7 @@ record ControlHolder (task : Task) (side : Side) : Type 0 where
 
 control_holder : (task : Task) (side : Side) → HoldsControl task side → ControlHolder task side
 control_holder (Agent a) side h = record { agent = a; is = refl; up = h.0; channel = h.1.0; channel_is = h.1.1; end = h.1.2; open_is = h.2 }
-control_holder (Broker b) side h = absurd h
-control_holder (Hostile t) side h = absurd h
+control_holder _ side h = absurd h
 
 control_rested : (task task' : Task) (before now : Side) → RestsOn task task' → ControlHolder task before → ControlHolder task' now → (length now.got ≡ length before.got) × (length now.sent ≡ length before.sent)
 control_rested task task' before now rests old new =
@@ -264,14 +251,9 @@ control_rested task task' before now rests old new =
 -- a state that is fresh and shut as another one is the same
 same_state : (a b : EndState) → is_begun b ≡ is_begun a → is_shut b ≡ is_shut a → b ≡ a
 same_state Fresh Fresh begun shut = refl
-same_state Fresh Open begun shut = cc
-same_state Fresh Shut begun shut = cc
-same_state Open Fresh begun shut = cc
 same_state Open Open begun shut = refl
-same_state Open Shut begun shut = cc
-same_state Shut Fresh begun shut = cc
-same_state Shut Open begun shut = cc
 same_state Shut Shut begun shut = refl
+same_state _ _ begun shut = cc
 
 -- as many bytes, and the same state
 abbrev LineStays : BrokerLine → BrokerLine → Type 0
@@ -313,8 +295,7 @@ line_rested task last (OneTurn before now last' nothing rest) b line place is at
 
     by_now : (now : Task) → ((n : BrokerState) (l : BrokerLine) → now ≡ Broker n → IsAt n.lines place l → LineRested l last place) → DoesNothing (Broker b) now → LineRested line last place
     by_now (Broker n) on rests = let one = next_line b.lines n.lines place line rests at in joined one.next one.same (on n one.next refl one.there)
-    by_now (Agent a) on rests = absurd rests
-    by_now (Hostile h) on rests = absurd rests
+    by_now _ on rests = absurd rests
 
 -- the broker of a held end
 record LineHolder (task : Task) (place : ℕ) (side : Side) : Type 0 where
@@ -326,8 +307,7 @@ record LineHolder (task : Task) (place : ℕ) (side : Side) : Type 0 where
 
 line_holder : (task : Task) (place : ℕ) (side : Side) → HoldsLine task place side → LineHolder task place side
 line_holder (Broker b) place side h = record { broker = b; is = refl; line = h.0; there = h.1; end = h.2 }
-line_holder (Agent a) place side h = absurd h
-line_holder (Hostile t) place side h = absurd h
+line_holder _ place side h = absurd h
 
 same_broker : (a b : BrokerState) → Broker a ≡ Broker b → a ≡ b
 same_broker a b e = cc

@@ -1,8 +1,7 @@
 -- The messages and the bytes of all control channels.
-use Rattle.std.proofs.Common.{◌≡◌, ℕ, ◌+◌, ◌*◌, ◌<◌, ◌≤◌, Bool, true, List, [], ◌∷◌, ◌++◌, length, length-append, map, drop, Option, Some, None, refl, sym, ap, ◌∙◌, subst, arith, inl, inr}
+use Rattle.std.proofs.Common.{◌≡◌, ℕ, ◌+◌, ◌*◌, ◌<◌, ◌≤◌, Bool, true, List, [], ◌∷◌, ◌++◌, length, length-append, map, drop, Option, Some, None, refl, sym, ap, ◌∙◌, subst, arith, inl, inr, lit<}
 use Rattle.std.specs.Prelude.{◌⊎◌, codes, filter_map, IsSomeAnd}
 use Rattle.std.specs.List.{sum_by, flat_map, AllByRecursion as Each}
-use Rattle.std.proofs.Common.{lit<}
 use Rattle.std.proofs.lemmas.List.{length-map, length-take, take-append-drop}
 use Rattle.std.proofs.lemmas.List.Recursion.{is_sum_by}
 use Rattle.std.proofs.lemmas.List.Sums.{sum_by-cons}
@@ -165,16 +164,10 @@ room (Trigger3 target ident service) = 105 + length service
 room (Trigger target ident service) = 136
 
 takes_room : (m : Message) → IsSpellable m → length (written m) ≡ room m
-takes_room (Hello version) fits = omega arith
-takes_room (Stdin bytes) fits = omega arith
-takes_room (Stdout bytes) fits = omega arith
-takes_room (Stderr bytes) fits = omega arith
-takes_room (ExitCode code) fits = omega arith
 takes_room (Exec domain port line) fits = omega (arith, length-append line (0 ∷ []))
 takes_room (JustExec domain port line) fits = omega (arith, length-append line (0 ∷ []))
 takes_room (Connect domain port ident) fits = let text = fits.0.within in omega (arith, length_padded 32 ident (omega (arith, text)))
 takes_room (Refused ident) fits = let text = fits.0.within in omega (arith, length_padded 32 ident (omega (arith, text)))
-takes_room (Terminated domain port) fits = omega arith
 takes_room (Trigger3 target ident service) fits =
     let one = fits.0.0.within in
     let two = fits.0.1.within in
@@ -193,6 +186,7 @@ takes_room (Trigger target ident service) fits =
     let both = length-append (padded 64 service) (padded 32 target ++ padded 32 ident) in
     let rest = length-append (padded 32 target) (padded 32 ident) in
     omega (arith, first, second, third, both, rest)
+takes_room _ fits = omega arith
 
 all_take_room : (may : Message → Bool) (said : List Message) → Each (λ m. (may m ≡ true) × IsSpellable m) said → length (flat_map written said) ≡ sum_by room said
 all_take_room may [] each = refl

@@ -16,7 +16,7 @@ use Rattle.qrexec_data.proofs.MaySendLaws.{caller_may_send, serving_may_send}
 use Rattle.call_broker.specs.Domains.{Domains, count_of, name_of}
 use Rattle.scenario_file.specs.declared.scenario.CallPlan.{CallPlan}
 use Rattle.task_duties.specs.Agent.Sessions.{chunk}
-use Rattle.data_slots.specs.Sessions.{Session, NotBegun, CallsWith, AwaitsPage, ServesWith, EndedWith}
+use Rattle.data_slots.specs.Sessions.{Session, NotBegun}
 use Rattle.agent_task.specs.State.{AgentState}
 use Rattle.broker_task.specs.Given.{BrokerState}
 use Rattle.broker_task.specs.Letters.{IsAt}
@@ -61,10 +61,7 @@ sides_send_so_lem = record {
 
 few_steps : (s : Session) → steps_in s ≤ 3
 few_steps NotBegun = omega arith
-few_steps (CallsWith at) = omega arith
-few_steps AwaitsPage = omega arith
-few_steps (ServesWith at) = omega arith
-few_steps (EndedWith end) = omega arith
+few_steps _ = omega arith
 
 -- the most that both sessions of a call's page have done: each takes one step more once it is over
 abbrev session_most : CallPlan → ℕ
