@@ -79,17 +79,13 @@ unused_send : (κ : _) → IsSend (unused.the_row κ)
 unused_send κ = variants_send (unused.enum κ) ((end_send κ, tt), ((server_send κ, tt), ((client_send, tt), tt)))
 
 pub data_end_send : (κ : _) → IsSend (data_end.the_row κ)
-data_end_send κ =
-    let fields : FieldsHave IsSend (data_end.the_type κ).parts = (search sendable, (search sendable, (search sendable, (unused_send κ, tt)))) in
-    declared_send (data_end.the_type κ) fields
+data_end_send κ = declared_send (data_end.the_type κ) (search sendable, (search sendable, (search sendable, (unused_send κ, tt))))
 
 done_send : IsSend done.the_row
 done_send = variants_send done.enum ((retired.the_send, tt), ((done_server_send, tt), ((done_client_send, tt), tt)))
 
 pub retired_end_send : IsSend retired_end.the_row
-retired_end_send =
-    let fields : FieldsHave IsSend retired_end.the_type.parts = (place.the_send, (done_send, tt)) in
-    declared_send retired_end.the_type fields
+retired_end_send = declared_send retired_end.the_type (place.the_send, (done_send, tt))
 
 -- ---- a control port
 
@@ -102,20 +98,14 @@ port_send κ =
 -- ---- the calls of an agent, and its control channel
 
 queued_send : IsSend queued.the_row
-queued_send =
-    let fields : FieldsHave IsSend queued.the_type.parts = (snapshot_send call_plan.the_row, (plan.the_send, (answer.the_send, (search sendable, (search sendable, tt))))) in
-    declared_send queued.the_type fields
+queued_send = declared_send queued.the_type (snapshot_send call_plan.the_row, (plan.the_send, (answer.the_send, (search sendable, (search sendable, tt)))))
 
 queue_send : IsSend queue.the_row
 queue_send =
-    let fields : FieldsHave IsSend queue_inside.the_type.parts =
-    (search (sendable, crosses, queued_send) depth 20, (search sendable, (search (sendable, crosses, BTreeMap-send) depth 20, (search (sendable, crosses), tt)))) in
-    view_send queue_inside.the_row _ _ _ _ (declared_send queue_inside.the_type fields)
+    view_send queue_inside.the_row _ _ _ _ (declared_send queue_inside.the_type (search (sendable, crosses, queued_send) depth 20, (search sendable, (search (sendable, crosses, BTreeMap-send) depth 20, (search (sendable, crosses), tt)))))
 
 control_send : (κ : _) → IsSend (control.the_row κ)
-control_send κ =
-    let fields : FieldsHave IsSend (control.the_type κ).parts = (port_send κ, (queue_send, (search (sendable, crosses, session_end.the_send), tt))) in
-    declared_send (control.the_type κ) fields
+control_send κ = declared_send (control.the_type κ) (port_send κ, (queue_send, (search (sendable, crosses, session_end.the_send), tt)))
 
 -- ---- the sessions of an agent, and its data ends
 
@@ -143,19 +133,13 @@ stage_send κ =
     variants_send (stage.enum κ) fields
 
 slot_send : (κ : _) → IsSend (slot.the_row κ)
-slot_send κ =
-    let fields : FieldsHave IsSend (slot.the_type κ).parts = (search sendable, (search sendable, (search sendable, (stage_send κ, tt)))) in
-    declared_send (slot.the_type κ) fields
+slot_send κ = declared_send (slot.the_type κ) (search sendable, (search sendable, (search sendable, (stage_send κ, tt))))
 
 call_note_send : IsSend call_note.the_row
-call_note_send =
-    let fields : FieldsHave IsSend call_note.the_type.parts = (search sendable, (search sendable, (search sendable, (snapshot_send (vec.the_row u8 global.the_row ghosts), tt)))) in
-    declared_send call_note.the_type fields
+call_note_send = declared_send call_note.the_type (search sendable, (search sendable, (search sendable, (snapshot_send (vec.the_row u8 global.the_row ghosts), tt))))
 
 served_note_send : IsSend served_note.the_row
-served_note_send =
-    let fields : FieldsHave IsSend served_note.the_type.parts = (search sendable, (search sendable, (search sendable, (snapshot_send service.the_row, tt)))) in
-    declared_send served_note.the_type fields
+served_note_send = declared_send served_note.the_type (search sendable, (search sendable, (search sendable, (snapshot_send service.the_row, tt))))
 
 ends_send : (κ : _) → IsSend (ends.the_row κ)
 ends_send κ =
@@ -178,60 +162,44 @@ ends_send κ =
     declared_send (ends.the_type κ) fields
 
 slots_send : (κ : _) → IsSend (slots.the_row κ)
-slots_send κ =
-    let fields : FieldsHave IsSend (slots_inside.the_type κ).parts = (ends_send κ, (search (sendable, crosses, retired_end_send) depth 20, (snapshot_send bool, tt))) in
-    view_send (slots_inside.the_row κ) _ _ _ _ (declared_send (slots_inside.the_type κ) fields)
+slots_send κ = view_send (slots_inside.the_row κ) _ _ _ _ (declared_send (slots_inside.the_type κ) (ends_send κ, (search (sendable, crosses, retired_end_send) depth 20, (snapshot_send bool, tt))))
 
 -- ---- the task of an agent
 
 given_send : (κ : _) → IsSend (given.the_row κ)
 given_send κ =
-    let fields : FieldsHave IsSend (given.the_type κ).parts = (search sendable, (search sendable, (snapshot_send (vec.the_row call_plan.the_row global.the_row ghosts), (snapshot_send (end.the_row κ), (snapshot_send (vec.the_row (data_end.the_row κ) global.the_row ghosts), tt))))) in
-    declared_send (given.the_type κ) fields
+    declared_send (given.the_type κ) (search sendable, (search sendable, (snapshot_send (vec.the_row call_plan.the_row global.the_row ghosts), (snapshot_send (end.the_row κ), (snapshot_send (vec.the_row (data_end.the_row κ) global.the_row ghosts), tt)))))
 
 agent_send : (κ : _) → IsSend (agent.the_row κ)
-agent_send κ =
-    let fields : FieldsHave IsSend (agent.the_type κ).parts = (heap.the_send, (given_send κ, (control_send κ, (slots_send κ, (search (sendable, crosses, control_end.the_send) depth 20, tt))))) in
-    declared_send (agent.the_type κ) fields
+agent_send κ = declared_send (agent.the_type κ) (heap.the_send, (given_send κ, (control_send κ, (slots_send κ, (search (sendable, crosses, control_end.the_send) depth 20, tt)))))
 
 agent_task_send : (κ : _) → IsSend (agent_task.the_row κ)
 agent_task_send κ =
-    let fields : FieldsHave IsSend (agent_inside.the_type κ).parts = (search (sendable, crosses, agent_send) depth 20, (search (sendable, crosses), (search (sendable, crosses, session_end.the_send), (search sendable, tt)))) in
-    view_send (agent_inside.the_row κ) _ _ _ _ (declared_send (agent_inside.the_type κ) fields)
+    view_send (agent_inside.the_row κ) _ _ _ _ (declared_send (agent_inside.the_type κ) (search (sendable, crosses, agent_send) depth 20, (search (sendable, crosses), (search (sendable, crosses, session_end.the_send), (search sendable, tt)))))
 
 -- ---- the task of the broker
 
 daemon_send : (κ : _) → IsSend (daemon.the_row κ)
-daemon_send κ =
-    let fields : FieldsHave IsSend (daemon.the_type κ).parts = (search sendable, (port_send κ, (outbox.the_send, (search sendable, (search sendable, tt))))) in
-    declared_send (daemon.the_type κ) fields
+daemon_send κ = declared_send (daemon.the_type κ) (search sendable, (port_send κ, (outbox.the_send, (search sendable, (search sendable, tt)))))
 
 switchboard_send : (κ : _) → IsSend (switchboard.the_row κ)
-switchboard_send κ =
-    let fields : FieldsHave IsSend (switchboard.the_type κ).parts = (broker.the_send, (search (sendable, crosses, daemon_send), tt)) in
-    declared_send (switchboard.the_type κ) fields
+switchboard_send κ = declared_send (switchboard.the_type κ) (broker.the_send, (search (sendable, crosses, daemon_send), tt))
 
 broker_task_send : (κ : _) → IsSend (broker_task.the_row κ)
 broker_task_send κ =
-    let fields : FieldsHave IsSend (broker_inside.the_type κ).parts = (switchboard_send κ, (search (sendable, crosses), (search (sendable, crosses, retired_end_send) depth 20, (search sendable, tt)))) in
-    view_send (broker_inside.the_row κ) _ _ _ _ (declared_send (broker_inside.the_type κ) fields)
+    view_send (broker_inside.the_row κ) _ _ _ _ (declared_send (broker_inside.the_type κ) (switchboard_send κ, (search (sendable, crosses), (search (sendable, crosses, retired_end_send) depth 20, (search sendable, tt)))))
 
 -- ---- the task of a hostile domain
 
 page_send : (κ : _) → IsSend (page.the_row κ)
-page_send κ =
-    let fields : FieldsHave IsSend (page.the_type κ).parts = (place.the_send, (snapshot_send (end.the_row κ), (hostile.the_send κ, tt))) in
-    declared_send (page.the_type κ) fields
+page_send κ = declared_send (page.the_type κ) (place.the_send, (snapshot_send (end.the_row κ), (hostile.the_send κ, tt)))
 
 pages_send : (κ : _) → IsSend (pages.the_row κ)
-pages_send κ =
-    let fields : FieldsHave IsSend (pages.the_type κ).parts = (page_send κ, (search (sendable, crosses, page_send) depth 20, tt)) in
-    declared_send (pages.the_type κ) fields
+pages_send κ = declared_send (pages.the_type κ) (page_send κ, (search (sendable, crosses, page_send) depth 20, tt))
 
 hostile_task_send : (κ : _) → IsSend (hostile_task.the_row κ)
 hostile_task_send κ =
-    let fields : FieldsHave IsSend (hostile_inside.the_type κ).parts = (heap.the_send, (domain.the_send, (pages_send κ, (progress.the_send, (search (sendable, crosses), (search (sendable, crosses, retired_end_send) depth 20, (search sendable, tt))))))) in
-    view_send (hostile_inside.the_row κ) _ _ _ _ (declared_send (hostile_inside.the_type κ) fields)
+    view_send (hostile_inside.the_row κ) _ _ _ _ (declared_send (hostile_inside.the_type κ) (heap.the_send, (domain.the_send, (pages_send κ, (progress.the_send, (search (sendable, crosses), (search (sendable, crosses, retired_end_send) depth 20, (search sendable, tt))))))))
 
 -- ---- a task
 
@@ -242,21 +210,13 @@ task_send κ = variants_send (task.enum κ) ((agent_task_send κ, tt), ((broker_
 
 agent_done_send : IsSend agent_done.the_row
 agent_done_send =
-    let fields : FieldsHave IsSend agent_done.the_type.parts = (
-      search sendable,
-      (search (sendable, crosses, call_done.the_send) depth 20, (search (sendable, crosses, served_done.the_send) depth 20, (control_end.the_send, (search (sendable, crosses, retired_end_send) depth 20, tt)))),
-    ) in
-    declared_send agent_done.the_type fields
+    declared_send agent_done.the_type (search sendable, (search (sendable, crosses, call_done.the_send) depth 20, (search (sendable, crosses, served_done.the_send) depth 20, (control_end.the_send, (search (sendable, crosses, retired_end_send) depth 20, tt)))))
 
 broker_done_send : IsSend broker_done.the_row
-broker_done_send =
-    let fields : FieldsHave IsSend broker_done.the_type.parts = (broker.the_send, (search (sendable, crosses, retired_end_send) depth 20, tt)) in
-    declared_send broker_done.the_type fields
+broker_done_send = declared_send broker_done.the_type (broker.the_send, (search (sendable, crosses, retired_end_send) depth 20, tt))
 
 hostile_done_send : IsSend hostile_done.the_row
-hostile_done_send =
-    let fields : FieldsHave IsSend hostile_done.the_type.parts = (search sendable, (search (sendable, crosses, retired_end_send) depth 20, tt)) in
-    declared_send hostile_done.the_type fields
+hostile_done_send = declared_send hostile_done.the_type (search sendable, (search (sendable, crosses, retired_end_send) depth 20, tt))
 
 pub task_done_send : IsSend task_done.the_row
 task_done_send = variants_send task_done.enum ((agent_done_send, tt), ((broker_done_send, tt), ((hostile_done_send, tt), ((search (sendable, crosses, retired_end_send) depth 20, tt), tt))))

@@ -75,18 +75,15 @@ control_moves calls old new t = by_found t.listens.found
 
 channel_moves : (pages : ℕ) (old new : Option AgentControl) → TurnsChannel pages old new → (bytes_of old < bytes_of new) ⊎ IsStill old new
 channel_moves pages (Some old) (Some new) t = control_moves _ old new t
-channel_moves pages (Some old) None t = absurd t
-channel_moves pages None new t = absurd t
+channel_moves pages _ _ t = absurd t
 
 channel_keeps : (was now : Option ControlEnd) (old new : Option AgentControl) → KeepsChannel was now old new → bytes_of old ≤ bytes_of new
 channel_keeps was now (Some old) (Some new) k = omega (arith, k.bytes.got, k.bytes.sent)
-channel_keeps was now (Some old) None k = absurd k
-channel_keeps was now None new k = absurd k
+channel_keeps was now _ _ k = absurd k
 
 channel_stays : (was now : Option ControlEnd) (old new : Option AgentControl) → KeepsChannel was now old new → (how : ControlEnd) → was ≡ Some how → now ≡ Some how
 channel_stays was now (Some old) (Some new) k how is = (k.over how is).0
-channel_stays was now (Some old) None k how is = absurd k
-channel_stays was now None new k how is = absurd k
+channel_stays was now _ _ k how is = absurd k
 
 -- the bytes of the channel, and one more once it is over
 abbrev channel_work : AgentState → ℕ
@@ -128,14 +125,8 @@ abbrev Works_or : ℕ → ℕ → Type 0 → Type 0
 Works_or old new Rests = (old ≤ new) × ((old < new) ⊎ Rests)
 
 not_moved : (turned : Turned) → (turned ≡ Quiet) ⊎ (turned ≡ Passed) → turned ≢ Moved
-not_moved turned (inl is) = λ e. never (sym is ∙ e)
-  where
-    never : Quiet ≡ Moved → ⊥
-    never e = cc
-not_moved turned (inr is) = λ e. never (sym is ∙ e)
-  where
-    never : Passed ≡ Moved → ⊥
-    never e = cc
+not_moved turned (inl is) moved = cc
+not_moved turned (inr is) moved = cc
 
 -- bytes came or went, and the call isn't over
 moved_bytes : (before now : EndView) (outcome : Option Outcome) → BytesMoved before now outcome → outcome ≡ None → length before.got + length before.sent < length now.got + length now.sent
@@ -159,10 +150,8 @@ serving_moves Passed before now h none = inr (not_moved Passed (inr refl))
 -- the number of a session that is open is that of its bytes, and two more at most
 open_worth : (session : Session) → is_open session ≡ true → work_in session ≤ length (got_in session) + length (sent_in session) + 2
 open_worth NotBegun is = absurd (false≢true is)
-open_worth (CallsWith at) is = omega arith
-open_worth AwaitsPage is = omega arith
-open_worth (ServesWith at) is = omega arith
 open_worth (EndedWith end) is = absurd (false≢true is)
+open_worth _ is = omega arith
 
 -- a session that takes its turn
 session_works : (old new : Session) → TakesTurn old new → Works_or (work_in old) (work_in new) (SessionRests old new)
@@ -199,17 +188,11 @@ session_works old new (by.WasOver end was is) =
 -- one that hadn't begun before the turn may begin in it
 begun_works : (new : Session) → Works_or (work_in NotBegun) (work_in new) (SessionRests NotBegun new)
 begun_works NotBegun = (omega arith, inr (HasNotBegun refl refl))
-begun_works (CallsWith at) = (omega arith, inl (omega arith))
-begun_works AwaitsPage = (omega arith, inl (omega arith))
-begun_works (ServesWith at) = (omega arith, inl (omega arith))
-begun_works (EndedWith end) = (omega arith, inl (omega arith))
+begun_works _ = (omega arith, inl (omega arith))
 
 at_works : (old new : Session) → (old ≢ NotBegun → TakesTurn old new) → Works_or (work_in old) (work_in new) (SessionRests old new)
 at_works NotBegun new takes = begun_works new
-at_works (CallsWith at) new takes = session_works (CallsWith at) new (takes (λ e. cc))
-at_works AwaitsPage new takes = session_works AwaitsPage new (takes (λ e. cc))
-at_works (ServesWith at) new takes = session_works (ServesWith at) new (takes (λ e. cc))
-at_works (EndedWith end) new takes = session_works (EndedWith end) new (takes (λ e. cc))
+at_works old new takes = session_works old new (takes (λ e. cc))
 
 abbrev AllRest : List Session → List Session → Type 0
 AllRest old new = (i : ℕ) → SessionRests (session_at old i) (session_at new i)
@@ -324,8 +307,6 @@ line_works old new t = by_begun (is_begun (view old.end).state) refl
 
 lines_work : (old new : List BrokerLine) → EachPair HasTurned old new → (work_with_all old ≤ work_with_all new) × ((work_with_all old < work_with_all new) ⊎ EachPair Rests old new)
 lines_work [] [] turned = (omega arith, inr tt)
-lines_work [] (y ∷ new) turned = absurd turned
-lines_work (x ∷ old) [] turned = absurd turned
 lines_work (x ∷ old) (y ∷ new) turned =
     let first = line_works x y turned.0 in
     let rest = lines_work old new turned.1 in (omega (arith, first.0, rest.0), joined first.0 rest.0 first.1 rest.1)
@@ -335,6 +316,7 @@ lines_work (x ∷ old) (y ∷ new) turned =
     joined one all (inl more) others = inl (omega (arith, all, more))
     joined one all (inr rests) (inl more) = inl (omega (arith, one, more))
     joined one all (inr rests) (inr others) = inr (rests, others)
+lines_work _ _ turned = absurd turned
 
 -- ---- a hostile domain
 
@@ -354,11 +336,6 @@ turns_made_more before now goes =
 pub turns_work : (before : Task) (result : Turn Task TaskDone) → TaskTurns before result → Works before result
 turns_work before (turn.Done done) t = tt
 turns_work (Agent before) (turn.Again (Agent now)) t = agent_works before now t.1.1 t.1.3 t.1.2
-turns_work (Agent before) (turn.Again (Broker now)) t = absurd t
-turns_work (Agent before) (turn.Again (Hostile now)) t = absurd t
 turns_work (Broker before) (turn.Again (Broker now)) t = lines_work before.lines now.lines t.1
-turns_work (Broker before) (turn.Again (Agent now)) t = absurd t
-turns_work (Broker before) (turn.Again (Hostile now)) t = absurd t
 turns_work (Hostile before) (turn.Again (Hostile now)) t = let more = turns_made_more before now t in (omega (arith, more), inl more)
-turns_work (Hostile before) (turn.Again (Agent now)) t = absurd t
-turns_work (Hostile before) (turn.Again (Broker now)) t = absurd t
+turns_work _ _ t = absurd t
