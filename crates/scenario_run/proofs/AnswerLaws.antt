@@ -4,6 +4,8 @@ use Rattle.std.specs.Prelude.{slice_get, Contains}
 use Rattle.std.specs.List.{AllZip, AllByRecursion as Each, AllZip as EachPair}
 use Rattle.std.proofs.lemmas.List.{length-map}
 use Rattle.std.proofs.lemmas.Option.{none-some}
+use Rattle.std.proofs.lemmas.Slice.Zip.{AllZip-long}
+use Rattle.list_laws.proofs.Each.{each_weaker}
 use Rattle.list_laws.proofs.Places.{get_within}
 use Rattle.vchan_rule.specs.Seated.{SeatedEnd, view}
 use Rattle.scenario_file.specs.Scenario.{Plan as Scenario, IsScenario}
@@ -31,17 +33,11 @@ owed_at (t ∷ tasks) [] k given owes is = absurd owes
 owed_at (t ∷ tasks) (d ∷ dones) zero given owes is = subst (λ g. TaskOwes g (answer_of d)) (let e : Some t ≡ Some given = is in cc) owes.0
 owed_at (t ∷ tasks) (d ∷ dones) (suc k) given owes is = owed_at tasks dones k given owes.1 is
 
-as_many : (tasks : List TaskGiven) (dones : List TaskDone) → AllZip Owes tasks dones → length dones ≡ length tasks
-as_many [] [] owes = refl
-as_many [] (d ∷ dones) owes = absurd owes
-as_many (t ∷ tasks) [] owes = absurd owes
-as_many (t ∷ tasks) (d ∷ dones) owes = ap suc (as_many tasks dones owes.1)
-
 pub answers_are : (s : Scenario) (pages : List PageAt) (controls : List SeatedEnd) (hands : List Hand) (tasks : List TaskGiven) (dones : List TaskDone)
     → AreLaid s pages → ControlsDealt pages controls → HandsDealt pages hands → length controls ≡ length s.domains → length hands ≡ length s.domains
     → AreTasksOf s (map view controls) hands tasks → AllZip Owes tasks dones → AreAnswers s pages (map answer_of dones)
 answers_are s pages controls hands tasks dones are by_controls by_hands many all given owes = record {
-  count = length-map dones answer_of ∙ as_many tasks dones owes ∙ given.count ∙ ap (λ n. n + 1) all;
+  count = length-map dones answer_of ∙ AllZip-long Owes tasks dones owes ∙ given.count ∙ ap (λ n. n + 1) all;
   each = each;
 }
   where
@@ -65,12 +61,7 @@ same_ends (Hostile plan ends) (NoMemory back) owes = owes.1.same
 same_ends (Agent plan ends) (AgentDone report) owes = owes.2.back.same
 same_ends (Broker hub awaited ends) (BrokerDone broker back) owes = owes.2.back.same
 same_ends (Hostile plan ends) (HostileDone domain back) owes = owes.2.back.same
-same_ends (Agent plan ends) (BrokerDone broker back) owes = absurd owes
-same_ends (Agent plan ends) (HostileDone domain back) owes = absurd owes
-same_ends (Broker hub awaited ends) (AgentDone report) owes = absurd owes
-same_ends (Broker hub awaited ends) (HostileDone domain back) owes = absurd owes
-same_ends (Hostile plan ends) (AgentDone report) owes = absurd owes
-same_ends (Hostile plan ends) (BrokerDone broker back) owes = absurd owes
+same_ends _ _ owes = absurd owes
 
 each_index : (P : Answer → Type 0) (dones : List Answer) (k : ℕ) → k < length dones → Each P dones → P (answer_at dones k)
 each_index P [] k less each = absurd (omega (arith, less))
@@ -78,9 +69,8 @@ each_index P (d ∷ dones) zero less each = each.0
 each_index P (d ∷ dones) (suc k) less each = each_index P dones k (omega (arith, less)) each.1
 
 index_ends : (dones : List Answer) (k : ℕ) → hand_of (map ends_of dones) k ≡ ends_of (answer_at dones k)
-index_ends [] k = refl
-index_ends (d ∷ dones) zero = refl
 index_ends (d ∷ dones) (suc k) = index_ends dones k
+index_ends _ _ = refl
 
 get_ends : (dones : List Answer) (k : ℕ) (hand : List EndAt) → slice_get (map ends_of dones) k ≡ Some hand → (k < length dones) × (hand ≡ ends_of (answer_at dones k))
 get_ends [] k hand is = absurd (none-some hand is)
@@ -103,15 +93,11 @@ joined s dones page by = record {
   client = subst (λ ends. Contains ends (record { place = page.place; view = page.settled.client })) (index_ends dones (client_of page.place)) by.client;
 }
 
-all_joined : (s : Scenario) (dones : List Answer) (settled : List SettledPage) → Each (IsSettledBy s (map ends_of dones)) settled → Each (IsJoined s dones) settled
-all_joined s dones [] each = tt
-all_joined s dones (page ∷ settled) each = (joined s dones page each.0, all_joined s dones settled each.1)
-
 pub are_results : (s : Scenario) (pages : List PageAt) (dones : List Answer) (settled : List SettledPage) → IsScenario s → AreLaid s pages → AreAnswers s pages dones → Each IsReport dones
     → AreSettledBy s pages (map ends_of dones) settled → AreResults s dones settled
 are_results s pages dones settled scenario laid are some by = record {
   scenario = scenario;
   answered = λ number within. (let a = are.each number within in (a.0, a.1, each_index IsReport dones number (omega (arith, within, are.count)) some, a.3));
   places = by.places ∙ laid.places;
-  joined = all_joined s dones settled by.each;
+  joined = each_weaker (IsSettledBy s (map ends_of dones)) (IsJoined s dones) (joined s dones) settled by.each;
 }

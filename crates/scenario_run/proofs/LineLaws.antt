@@ -1,6 +1,7 @@
 -- The lines of the calls, one more at a time.
 use Rattle.std.proofs.Common.{◌≡◌, ◌⊎◌, inl, inr, ℕ, zero, suc, ◌+◌, ◌<◌, ◌≤◌, List, [], ◌∷◌, length, set, drop, take, get_or, refl, ap, sym, ◌∙◌, subst, arith, Some, None}
 use Rattle.std.specs.Prelude.{◌==◌, Bool, true, false, filter, slice_get}
+use Rattle.std.proofs.lemmas.Bool.{ne_eqb}
 use Rattle.std.proofs.lemmas.Bool.Decides.{nat_tests}
 use Rattle.std.proofs.lemmas.Option.{slice_get_read}
 use Rattle.std.specs.List.{AllZip as EachPair}
@@ -21,12 +22,6 @@ pub drop_at : {A : Type 0} (xs : List A) (k : ℕ) (x : A) → slice_get xs k �
 drop_at [] k x is = absurd (let e : None ≡ Some x = is in cc)
 drop_at (y ∷ xs) zero x is = ap (λ z. z ∷ xs) (let e : Some y ≡ Some x = is in cc)
 drop_at (y ∷ xs) (suc k) x is = (let e : suc k + 1 ≡ suc (k + 1) = omega arith in subst (λ n. drop k xs ≡ x ∷ drop n (y ∷ xs)) (sym e) (drop_at xs k x is))
-
-pub take_over : {A : Type 0} (xs : List A) (k : ℕ) → length xs ≤ k → take k xs ≡ xs
-take_over [] zero over = refl
-take_over [] (suc k) over = refl
-take_over (x ∷ xs) zero over = absurd (omega (arith, over))
-take_over (x ∷ xs) (suc k) over = ap (λ l. x ∷ l) (take_over xs k (omega (arith, over)))
 
 pub one_there : {A : Type 0} (xs : List A) (k : ℕ) (x y : A) → slice_get xs k ≡ Some x → slice_get xs k ≡ Some y → x ≡ y
 one_there xs k x y a b = let e : Some x ≡ Some y = sym a ∙ b in cc
@@ -86,13 +81,6 @@ first_journal P [] k x y at keeps first = absurd (let e : None ≡ Some x = at i
 first_journal P (z ∷ xs) zero x y at keeps first = (y, refl, keeps (subst P (let a : Some z ≡ Some first.0 = first.1 in let b : Some z ≡ Some x = at in cc) first.2))
 first_journal P (z ∷ xs) (suc k) x y at keeps first = first
 
-no_test : (a b : ℕ) → (a ≡ b → ⊥) → (a == b) ≡ false
-no_test a b differ = by (a == b) refl
-  where
-    by : (t : Bool) → (a == b) ≡ t → (a == b) ≡ false
-    by true is = absurd (differ (grind (arith, nat_tests, is)))
-    by false is = is
-
 -- after it is taken, the others are still reported
 pub reports_on : (s : Scenario) (run : Run) (call : CallPlan) (calls : List CallPlan) (reports : List ReportPart) (part part' : ReportPart) (done : CallDone) → HasReports s run (call ∷ calls) reports
     → slice_get reports call.from ≡ Some part → part.calls ≡ done ∷ part'.calls → part'.journal ≡ part.journal → HasReports s run calls (set reports call.from part')
@@ -107,5 +95,5 @@ reports_on s run call calls reports part part' done has at taken journal = recor
         let rest = pair_rest run call (filter (λ c. c.from == call.from) calls) done part'.calls (subst (EachPair (IsEndOf run) (call ∷ filter (λ c. c.from == call.from) calls)) taken own) in
         subst (λ x. EachPair (IsEndOf run) (filter (λ c. c.from == d) calls) x.calls) here.1 (subst (λ n. EachPair (IsEndOf run) (filter (λ c. c.from == n) calls) part'.calls) (sym here.0) rest)
     by d p (inr there) =
-        let other : (call.from == d) ≡ false = no_test call.from d (λ e. there.0 (sym e)) in
+        let other : (call.from == d) ≡ false = ne_eqb call.from d (λ e. there.0 (sym e)) in
         subst (λ xs. EachPair (IsEndOf run) xs p.calls) (other_calls call calls d other) (has.each d p there.1)

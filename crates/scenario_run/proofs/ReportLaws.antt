@@ -41,12 +41,11 @@ IsNumbered call done = done.number ≡ call.number
 all_numbered : (heard : List Message) (plan : AgentPlan) (end : PagePlace → EndView) (calls : List CallPlan) (asked : List Asked) (done : List CallDone)
     → AreHeard heard calls asked → EachPair (ReportsCall plan end) asked done → EachPair IsNumbered calls done
 all_numbered heard plan end [] [] [] are reports = tt
-all_numbered heard plan end [] [] (d ∷ done) are reports = absurd reports
 all_numbered heard plan end [] (a ∷ asked) done are reports = absurd are
 all_numbered heard plan end (c ∷ calls) [] done are reports = absurd are
-all_numbered heard plan end (c ∷ calls) (a ∷ asked) [] are reports = absurd reports
 all_numbered heard plan end (c ∷ calls) (a ∷ asked) (d ∷ done) are reports =
     (reports.0.0 ∙ ap (λ x. x.number) are.0.0, all_numbered heard plan end calls asked done are.1 reports.1)
+all_numbered heard plan end _ _ _ are reports = absurd reports
 
 -- what is reported of each call is found by its number
 abbrev IsFound : List CallDone → CallPlan → CallDone → Type 0
@@ -54,14 +53,11 @@ IsFound all call done = done.end ≡ end_in all call.number
 
 pair_map : {A B : Type 0} (P Q : A → B → Type 0) (xs : List A) (ys : List B) → ((x : A) (y : B) → Has xs x → P x y → Q x y) → EachPair P xs ys → EachPair Q xs ys
 pair_map P Q [] [] go each = tt
-pair_map P Q [] (y ∷ ys) go each = absurd each
-pair_map P Q (x ∷ xs) [] go each = absurd each
 pair_map P Q (x ∷ xs) (y ∷ ys) go each = (go x y (inl refl) each.0, pair_map P Q xs ys (λ a b h. go a b (inr h)) each.1)
+pair_map P Q _ _ go each = absurd each
 
 all_found : (calls : List CallPlan) (done : List CallDone) → AreDifferent (idents calls) → EachPair IsNumbered calls done → EachPair (IsFound done) calls done
 all_found [] [] differ each = tt
-all_found [] (d ∷ done) differ each = absurd each
-all_found (c ∷ calls) [] differ each = absurd each
 all_found (c ∷ calls) (d ∷ done) differ each = (
   (let same : (d.number == c.number) ≡ true = (let e = each.0 in grind (arith, nat_tests, e)) in rw same refl),
   pair_map (IsFound done) (IsFound (d ∷ done)) calls done
@@ -76,6 +72,7 @@ all_found (c ∷ calls) (d ∷ done) differ each = (
         by true is = absurd (let e : d.number ≡ x.number = grind (arith, nat_tests, is) in
             each_at (λ (i : List ℕ). ident_of c.number ≢ i) (idents calls) (ident_of x.number) differ.0 (has_map_back (λ call. ident_of call.number) calls x h) (ap ident_of (sym each.0 ∙ e)))
         by false is = is
+all_found _ _ differ each = absurd each
 
 -- each call of a domain has that domain as its caller
 own_call : (s : Scenario) (d : ℕ) (call : CallPlan) → Has (calls_from s d) call → call.from ≡ d
@@ -103,12 +100,10 @@ no_calls s d (c ∷ calls) each other = by (c.from == d) refl (no_calls s d call
     by false is rest = rw is rest
 
 no_report : (s : Scenario) (d : ℕ) (given : TaskGiven) (done : TaskDone) → (is_some (domain_of s d) ≡ true → hostile_at s d ≡ true) → IsGivenTo s d given → TaskOwes given done → calls_of done ≡ []
-no_report s d given (NoMemory ends) other is owes = refl
-no_report s d given (BrokerDone broker ends) other is owes = refl
-no_report s d given (HostileDone domain ends) other is owes = refl
 no_report s d (Agent plan ends) (AgentDone report) other is owes = absurd (false≢true (sym is.0.honest ∙ other is.0.there))
 no_report s d (Broker hub awaited ends) (AgentDone report) other is owes = absurd owes
 no_report s d (Hostile plan ends) (AgentDone report) other is owes = absurd owes
+no_report s d given _ other is owes = refl
 
 -- ---- the reports
 
@@ -150,12 +145,10 @@ has_reports s dones pages h count = record {
 }
 
 nothing_served : (s : Scenario) (given : TaskGiven) (done : TaskDone) → IsGivenTo s 0 given → TaskOwes given done → served_of done ≡ []
-nothing_served s given (NoMemory ends) is owes = refl
-nothing_served s given (BrokerDone broker ends) is owes = refl
-nothing_served s given (HostileDone domain ends) is owes = refl
 nothing_served s (Agent plan ends) (AgentDone report) is owes = absurd (let there : is_some (domain_of s 0) ≡ true = is.0.there in false≢true there)
 nothing_served s (Broker hub awaited ends) (AgentDone report) is owes = absurd owes
 nothing_served s (Hostile plan ends) (AgentDone report) is owes = absurd owes
+nothing_served s given _ is owes = refl
 
 pub have_served : (s : Scenario) (dones : List TaskDone) (pages : List SettledPage) → AreResults s dones pages → HaveServed (run_of s dones) (map report_of dones)
 have_served s dones pages h = record {

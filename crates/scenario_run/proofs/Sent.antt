@@ -13,9 +13,7 @@ use Rattle.scenario_run.specs.contracts.run_task.RunTask as run_task
 use Rattle.scenario_run.specs.contracts.run_task.RunTask.TheInside as inside
 
 hand_send : (κ : _) → IsSend (hand.the_row κ)
-hand_send κ =
-    let fields : FieldsHave IsSend (hand.the_type κ).parts = (end_send κ, (search (sendable, crosses, data_end_send) depth 20, tt)) in
-    declared_send (hand.the_type κ) fields
+hand_send κ = declared_send (hand.the_type κ) (end_send κ, (search (sendable, crosses, data_end_send) depth 20, tt))
 
 stage_send : (κ : _) → IsSend (stage.the_row κ)
 stage_send κ = variants_send (stage.enum κ) ((search (sendable, crosses, end_send) depth 20, (search (sendable, crosses, retired_end_send) depth 20, tt)), ((search sendable, (hand_send κ, (search (sendable, crosses, retired_end_send) depth 20, tt))), ((task_send κ, tt), tt)))

@@ -11,7 +11,7 @@ use Rattle.std.specs.Ordering.{is_lt, nat_cmp, ordering_then}
 use Rattle.std.specs.declared.cmp.Ordering.{Ordering}
 use Rattle.std.proofs.lemmas.Bool.{false≢true}
 use Rattle.std.proofs.lemmas.Bool.Decides.{nat_tests}
-use Rattle.std.proofs.lemmas.List.{length-map}
+use Rattle.std.proofs.lemmas.List.{get_or-map, length-map}
 use Rattle.scenario_file.specs.Scenario.{Plan as Scenario, hostile_at}
 use Rattle.task_duties.specs.declared.done.ServedDone.{ServedDone}
 use Rattle.task_duties.specs.Places.{numbers}
@@ -58,11 +58,6 @@ pub lines_seen : (s : Scenario) (xs : List Session) → map (λ x. session_line 
 lines_seen s [] = refl
 lines_seen s (x ∷ xs) = ap (λ l. session_line s (seen x) ∷ l) (lines_seen s xs)
 
-index_map : {A B : Type 0} (f : A → B) (xs : List A) (k : ℕ) (d : B) (e : A) → k < length xs → slice_index_or (map f xs) k d ≡ f (slice_index_or xs k e)
-index_map f [] k d e within = absurd (omega (arith, within))
-index_map f (x ∷ xs) zero d e within = refl
-index_map f (x ∷ xs) (suc k) d e within = index_map f xs k d e (omega (arith, within))
-
 first_of : {A : Type 0} (xs : List A) (k : ℕ) → k < length xs → A
 first_of [] k within = absurd (omega (arith, within))
 first_of (x ∷ xs) k within = x
@@ -71,8 +66,8 @@ pub pairs_seen : (xs : List Session) → AllPairs (λ a b. stands_before (seen b
 pairs_seen xs pairs i j d less within =
     let inside : j < length xs = (let n = length-map xs seen in omega (arith, within, n)) in
     let e : Session = first_of xs j inside in
-    subst (λ b. stands_before b (slice_index_or (map seen xs) i d) ≡ false) (sym (index_map seen xs j d e inside))
-    (subst (λ a. stands_before (seen (slice_index_or xs j e)) a ≡ false) (sym (index_map seen xs i d e (omega (arith, less, inside))))
+    subst (λ b. stands_before b (slice_index_or (map seen xs) i d) ≡ false) (sym (get_or-map seen xs j e d inside))
+    (subst (λ a. stands_before (seen (slice_index_or xs j e)) a ≡ false) (sym (get_or-map seen xs i e d (omega (arith, less, inside))))
     (pairs i j e less inside))
 
 -- ---- in order

@@ -3,6 +3,7 @@ use Rattle.std.proofs.Common.{◌≡◌, ℕ, zero, suc, ◌+◌, List, [], ◌�
 use Rattle.std.specs.Prelude.{false, slice_get, AllPairs, IsPermutation}
 use Rattle.std.specs.Global.{Global}
 use Rattle.std.specs.List.{AllByRecursion as Each}
+use Rattle.std.proofs.lemmas.Simd.{map-map}
 use Rattle.list_laws.proofs.Each.{each_through}
 use Rattle.scenario_file.specs.Scenario.{Plan as Scenario, IsScenario}
 use Rattle.task_duties.specs.declared.ends.RetiredEnd.{RetiredEnd}
@@ -29,10 +30,6 @@ use Rattle.scenario_run.specs.Sessions.{HaveServed}
 use Rattle.scenario_run.proofs.AnswerLaws.{are_results, ends_back}
 use Rattle.scenario_run.proofs.ReportLaws.{has_reports, have_served}
 
-map_twice : {A B C : Type 0} (f : B → C) (g : A → B) (xs : List A) → map (λ x. f (g x)) xs ≡ map f (map g xs)
-map_twice f g [] = refl
-map_twice f g (x ∷ xs) = ap (λ l. f (g x) ∷ l) (map_twice f g xs)
-
 abbrev pub Ends : Type 0
 Ends = List (Vec RetiredEnd Global)
 
@@ -45,18 +42,18 @@ pub record AreApart (dones : List TaskDone) (ends : Ends) (reports : List Report
 pub back : (s : Scenario) (pages : List PageAt) (dones : List TaskDone) (ends : Ends) (reports : List ReportPart) → AreAnswers s pages (map answer_of dones) → AreApart dones ends reports
     → HandsBack pages (map (λ h. all_retired h.items) ends)
 back s pages dones ends reports are apart =
-    subst (HandsBack pages) (sym (apart.ends_are ∙ map_twice ends_of answer_of dones)) (ends_back s pages (map answer_of dones) are)
+    subst (HandsBack pages) (sym (apart.ends_are ∙ sym (map-map ends_of answer_of dones))) (ends_back s pages (map answer_of dones) are)
 
 pub results : (s : Scenario) (pages : List PageAt) (dones : List TaskDone) (ends : Ends) (reports : List ReportPart) (settled : List SettledPage) → IsScenario s → AreLaid s pages
     → AreAnswers s pages (map answer_of dones) → AreApart dones ends reports → AreSettledBy s pages (map (λ h. all_retired h.items) ends) settled → AreResults s (map answer_of dones) settled
 results s pages dones ends reports settled scenario laid are apart by =
     are_results s pages (map answer_of dones) settled scenario laid are (each_through IsReport answer_of dones apart.done)
-    (subst (λ hands. AreSettledBy s pages hands settled) (apart.ends_are ∙ map_twice ends_of answer_of dones) by)
+    (subst (λ hands. AreSettledBy s pages hands settled) (apart.ends_are ∙ sym (map-map ends_of answer_of dones)) by)
 
 pub reported : (s : Scenario) (pages : List PageAt) (dones : List TaskDone) (ends : Ends) (reports : List ReportPart) (settled : List SettledPage) → AreAnswers s pages (map answer_of dones) → AreApart dones ends reports
     → AreResults s (map answer_of dones) settled → HasReports s (run_of s (map answer_of dones)) s.calls reports
 reported s pages dones ends reports settled are apart is =
-    subst (HasReports s (run_of s (map answer_of dones)) s.calls) (sym (apart.reports_are ∙ map_twice report_of answer_of dones)) (has_reports s (map answer_of dones) settled is are.count)
+    subst (HasReports s (run_of s (map answer_of dones)) s.calls) (sym (apart.reports_are ∙ sym (map-map report_of answer_of dones))) (has_reports s (map answer_of dones) settled is are.count)
 
 -- ---- what was served stays while only calls are taken
 
@@ -80,15 +77,14 @@ pub all_served : (s : Scenario) (dones : List TaskDone) (ends : Ends) (reports n
     → map (λ r. r.served) new ≡ map (λ r. r.served) reports → HaveServed (run_of s (map answer_of dones)) new
 all_served s dones ends reports new settled apart is same =
     served_same (run_of s (map answer_of dones)) reports new same
-    (subst (HaveServed (run_of s (map answer_of dones))) (sym (apart.reports_are ∙ map_twice report_of answer_of dones)) (have_served s (map answer_of dones) settled is))
+    (subst (HaveServed (run_of s (map answer_of dones))) (sym (apart.reports_are ∙ sym (map-map report_of answer_of dones))) (have_served s (map answer_of dones) settled is))
 
 -- ---- a list that was changed in place
 
 pub take_front : {A : Type 0} (n : ℕ) (xs ys : List A) → length xs ≡ n → take n (xs ++ ys) ≡ xs
 take_front zero [] ys is = refl
-take_front zero (x ∷ xs) ys is = absurd (omega (arith, is))
-take_front (suc n) [] ys is = absurd (omega (arith, is))
 take_front (suc n) (x ∷ xs) ys is = ap (λ l. x ∷ l) (take_front n xs ys (omega (arith, is)))
+take_front _ _ ys is = absurd (omega (arith, is))
 
 -- ---- the report
 

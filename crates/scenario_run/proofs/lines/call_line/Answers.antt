@@ -17,11 +17,7 @@ use Rattle.scenario_run.proofs.lines.call_line.Goals.{then-is_mixed, else-is_mix
 -- what comes of a call, read off the pages of the run
 same_end : (s : Scenario) (run : Run) (call : CallPlan) (end : CallEnd) → plain_result (laid s) run.journal call end ≡ plain_end s run call end
 same_end s run call (Session port to (outcome.Done code) stdout stderr got) = refl
-same_end s run call (Session port to (outcome.Fault fault) stdout stderr got) = refl
-same_end s run call (Session port to outcome.Closed stdout stderr got) = refl
-same_end s run call (Session port to outcome.Gone stdout stderr got) = refl
-same_end s run call Refused = refl
-same_end s run call Unanswered = refl
+same_end s run call _ = refl
 
 pub returns : goal.returns
 returns c = λ run journal end.

@@ -1,6 +1,6 @@
 use Rattle.std.proofs.Common.{◌≡◌, ◌∙◌, ◌+◌, ◌≤◌, ◌∷◌, ◌++◌, [], List, Some, length, map, set, length-set, drop, take, refl, ap, sym, subst, arith}
 use Rattle.std.specs.Prelude.{slice_get}
-use Rattle.std.proofs.lemmas.List.{map-append}
+use Rattle.std.proofs.lemmas.List.{map-append, take_all}
 use Rattle.std.proofs.lemmas.Option.{slice_get_read}
 use Rattle.list_laws.proofs.Places.{map_set_same, take_next}
 use Rattle.scenario_file.specs.Scenario.{IsScenario}
@@ -9,13 +9,19 @@ use Rattle.run_laws.specs.Run.{Run}
 use Rattle.run_laws.specs.ReadOff.{end_of_call, line_read}
 use Rattle.scenario_run.specs.Parts.{ReportPart}
 use Rattle.scenario_run.specs.Lines.{HasReports}
-use Rattle.scenario_run.proofs.LineLaws.{drop_at, next_is, one_there, report_at, reports_on, take_over}
+use Rattle.scenario_run.proofs.LineLaws.{drop_at, next_is, one_there, report_at, reports_on}
+use Rattle.scenario_run.proofs.lines.call_lines.Goals.{After-index-reports-call}
 use Rattle.scenario_run.proofs.lines.call_lines.Goals as goal
+
+-- the call at hand, and the report of its caller
+at_hand : (c : After-index-reports-call) → (slice_get c.args.scenario.now.calls c.loop-call.call-index ≡ Some c.call-item.result) × (slice_get c.loop-call.reports c.call-item.result.from ≡ Some c.index-reports-call.result)
+at_hand c =
+    report_at c.args.scenario.now (subst IsScenario c.scenario.view_is c.scenario.invariant) c.deref-call-items.result.now (c.deref-call-items.ensures.value ∙ ap (λ p. p.calls) c.scenario.view_is)
+    c.loop-call.call-index c.call-item.result c.loop-call-test.true c.call-item.is c.loop-call.reports c.index-reports-call.result (c.loop-call.invariant.long ∙ c.requires.count) c.index-reports-call.is
 
 pub take_call-end-requires : goal.take_call-end-requires
 take_call-end-requires c =
-    let at = report_at c.args.scenario.now (subst IsScenario c.scenario.view_is c.scenario.invariant) c.deref-call-items.result.now (c.deref-call-items.ensures.value ∙ ap (λ p. p.calls) c.scenario.view_is)
-    c.loop-call.call-index c.call-item.result c.loop-call-test.true c.call-item.is c.loop-call.reports c.index-reports-call.result (c.loop-call.invariant.long ∙ c.requires.count) c.index-reports-call.is in
+    let at = at_hand (goal.at.take_call-end-requires c).After-index-reports-call in
     let run = c.requires.reports.0 in
     let has = c.loop-call.invariant.reports run c.requires.reports.1 in
     let left = subst (λ calls. HasReports c.args.scenario.now run calls c.loop-call.reports) (drop_at c.args.scenario.now.calls c.loop-call.call-index c.call-item.result at.0) has in
@@ -24,15 +30,13 @@ take_call-end-requires c =
 
 pub returns-in_err-line-clause-served : goal.returns-in_err-line-clause-served
 returns-in_err-line-clause-served c =
-    let at = report_at c.args.scenario.now (subst IsScenario c.scenario.view_is c.scenario.invariant) c.deref-call-items.result.now (c.deref-call-items.ensures.value ∙ ap (λ p. p.calls) c.scenario.view_is)
-    c.loop-call.call-index c.call-item.result c.loop-call-test.true c.call-item.is c.loop-call.reports c.index-reports-call.result (c.loop-call.invariant.long ∙ c.requires.count) c.index-reports-call.is in
+    let at = at_hand (goal.at.returns-in_err-line-clause-served c).After-index-reports-call in
     map_set_same (λ (r : ReportPart). r.served) c.loop-call.reports c.call-item.result.from c.index-reports-call.result c.take_call-end.new.self at.1
     (c.take_call-end.ensures.same.0 ∙ ap (λ (p : ReportPart). p.served) (sym c.index-reports-call.is)) ∙ c.loop-call.invariant.served
 
 pub returns-in_err-push-clause-served : goal.returns-in_err-push-clause-served
 returns-in_err-push-clause-served c =
-    let at = report_at c.args.scenario.now (subst IsScenario c.scenario.view_is c.scenario.invariant) c.deref-call-items.result.now (c.deref-call-items.ensures.value ∙ ap (λ p. p.calls) c.scenario.view_is)
-    c.loop-call.call-index c.call-item.result c.loop-call-test.true c.call-item.is c.loop-call.reports c.index-reports-call.result (c.loop-call.invariant.long ∙ c.requires.count) c.index-reports-call.is in
+    let at = at_hand (goal.at.returns-in_err-push-clause-served c).After-index-reports-call in
     map_set_same (λ (r : ReportPart). r.served) c.loop-call.reports c.call-item.result.from c.index-reports-call.result c.take_call-end.new.self at.1
     (c.take_call-end.ensures.same.0 ∙ ap (λ (p : ReportPart). p.served) (sym c.index-reports-call.is)) ∙ c.loop-call.invariant.served
 
@@ -44,8 +48,7 @@ loop-call-preserved c =
     let part = c.index-reports-call.result in
     let new = c.take_call-end.new.self in
     let rest = drop (k + 1) s.calls in
-    let at = report_at c.args.scenario.now (subst IsScenario c.scenario.view_is c.scenario.invariant) c.deref-call-items.result.now (c.deref-call-items.ensures.value ∙ ap (λ p. p.calls) c.scenario.view_is)
-    c.loop-call.call-index c.call-item.result c.loop-call-test.true c.call-item.is c.loop-call.reports c.index-reports-call.result (c.loop-call.invariant.long ∙ c.requires.count) c.index-reports-call.is in
+    let at = at_hand (goal.at.loop-call-preserved c).After-index-reports-call in
     let reports' : List ReportPart = set c.loop-call.reports call.from new in
     let left : (run : Run) → HasReports s run s.calls c.args.reports.now → HasReports s run (call ∷ rest) c.loop-call.reports =
     λ run has. subst (λ calls. HasReports s run calls c.loop-call.reports) (drop_at s.calls k call at.0) (c.loop-call.invariant.reports run has) in
@@ -75,4 +78,4 @@ pub returns-clause-lines : goal.returns-clause-lines
 returns-clause-lines c = λ run has.
     let items : c.deref-call-items.result.now ≡ c.args.scenario.now.calls = c.deref-call-items.ensures.value ∙ ap (λ p. p.calls) c.scenario.view_is in
     let over : length c.args.scenario.now.calls ≤ c.loop-call.call-index = (let e = ap length items in omega (arith, c.loop-call-test.false, e)) in
-    c.loop-call.invariant.lines run has ∙ ap (map (line_read c.args.scenario.now run)) (take_over c.args.scenario.now.calls c.loop-call.call-index over)
+    c.loop-call.invariant.lines run has ∙ ap (map (line_read c.args.scenario.now run)) (take_all c.loop-call.call-index c.args.scenario.now.calls over)
