@@ -16,10 +16,10 @@ use Rattle.task_duties.specs.declared.done.SessionEnd.{SessionEnd}
 use Rattle.task_duties.specs.Words.{ident_of}
 use Rattle.task_duties.specs.Agent.Answers.{Answer, Asked}
 use Rattle.task_duties.specs.Agent.Saying.{asking, AsksToServe, is_at, is_refusal, IsOfVersion, IsTold}
-use Rattle.call_queue.specs.Queue.{Queued, QueueState, asked_as, asked_by, IsDue, HasToSay, trigger_of, after_trigger, IsConnectedAt}
-use Rattle.call_queue.specs.Asking.{Asks}
-use Rattle.call_queue.proofs.Places.{map_set_same}
-use Rattle.call_queue.proofs.AskingLaws.{asks_stranger}
+use Rattle.agent_queue.specs.Queue.{Queued, QueueState, asked_as, asked_by, IsDue, HasToSay, trigger_of, after_trigger, IsConnectedAt}
+use Rattle.agent_queue.specs.Asking.{Asks}
+use Rattle.agent_queue.proofs.Places.{map_set_same}
+use Rattle.agent_queue.proofs.AskingLaws.{asks_stranger}
 use Rattle.control_port.specs.Port.{PortState}
 use Rattle.agent_control.specs.declared.control.AgentControl.{AgentControl}
 use Rattle.agent_control.specs.Speaking.{MayTell, IsTellable, HasCall, Speaks, CanSpeak, StaysOpen, IsAskedNow, OpenAfter, SaysMore, Tells, Says, IsSpoken, terminated}

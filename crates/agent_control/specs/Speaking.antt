@@ -12,8 +12,8 @@ use Rattle.task_duties.specs.Agent.Answers.{Answer, Asked}
 use Rattle.task_duties.specs.Agent.Saying.{asking, is_at, is_refusal, IsOfVersion, IsTold, AsksToServe}
 use Rattle.control_port.specs.Port.{PortState, HasSaid, HasHeard, OnlySends}
 use Rattle.control_port.specs.declared.talk.Talker.TheVariants.{Agent}
-use Rattle.call_queue.specs.Queue.{Queued, QueueState, asked_by}
-use Rattle.call_queue.specs.Asking.{Asks}
+use Rattle.agent_queue.specs.Queue.{Queued, QueueState, asked_by}
+use Rattle.agent_queue.specs.Asking.{Asks}
 use Rattle.agent_control.specs.declared.control.AgentControl.{AgentControl}
 
 -- an end of a session that may be reported: of a call of the agent's own with that domain and port, or of what it was asked to serve

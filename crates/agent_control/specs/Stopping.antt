@@ -13,7 +13,7 @@ use Rattle.vchan_packet.specs.Packet.{FailsToSend}
 use Rattle.qrexec_frame.specs.declared.message.Message.{Message}
 use Rattle.qrexec_frame.specs.Messages.{written}
 use Rattle.task_duties.specs.declared.done.SessionEnd.{SessionEnd}
-use Rattle.call_queue.specs.Queue.{HasToSay, IsHeld}
+use Rattle.agent_queue.specs.Queue.{HasToSay, IsHeld}
 use Rattle.agent_control.specs.declared.control.AgentControl.{AgentControl}
 use Rattle.agent_control.specs.Speaking.{terminated}
 

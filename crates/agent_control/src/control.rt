@@ -6,11 +6,11 @@ ghost use Rattle.task_duties.specs.Hearing.{to_broker};
 ghost use Rattle.vchan_rule.specs.Seated.{IsOpen};
 ghost use Rattle.vchan_rule.specs.Ends.{IsSameEnd};
 ghost use Rattle.vchan_packet.specs.Packet.{FailsToSend};
-ghost use Rattle.call_queue.specs.Queue.{asked_by};
+ghost use Rattle.agent_queue.specs.Queue.{asked_by};
 ghost use Rattle.agent_control.specs.Speaking.{CanSpeak, HasCall, SaysMore, Tells, Says, terminated};
 ghost use Rattle.agent_control.specs.Stopping.{FindsLess, EndWaits, HoldsBack, Stops, Unless};
 
-use call_queue::CallQueue;
+use agent_queue::CallQueue;
 use control_port::ControlPort;
 use qrexec_frame::Message;
 use std::alloc::Global;

@@ -13,7 +13,7 @@ use Rattle.scenario_file.specs.declared.scenario.CallPlan.{CallPlan}
 use Rattle.task_duties.specs.Words.{ident_of}
 use Rattle.task_duties.specs.Agent.Answers.{Answer, Waits, IsRefused, At, Asked, Answers, waits, waits_as, answered, takes, takes_all}
 use Rattle.task_duties.specs.Agent.Saying.{is_refusal}
-use Rattle.call_queue.specs.Queue.{Queued, QueueState, asked_as, asked_by, answered_call}
+use Rattle.agent_queue.specs.Queue.{Queued, QueueState, asked_as, asked_by, answered_call}
 use Rattle.agent_task.specs.declared.agent.Given.{Given}
 use Rattle.agent_task.specs.Standing.{called_by, called_of, AreCallsOf}
 

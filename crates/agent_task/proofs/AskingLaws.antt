@@ -17,8 +17,8 @@ use Rattle.scenario_file.specs.declared.scenario.CallPlan.{CallPlan}
 use Rattle.task_duties.specs.declared.done.SessionEnd.{SessionEnd}
 use Rattle.task_duties.specs.Agent.Answers.{Answer, Waits, IsRefused, At, Asked, waits, waits_as}
 use Rattle.task_duties.specs.Agent.Saying.{asking, asking_of, is_at, is_refusal}
-use Rattle.call_queue.specs.Queue.{Queued, QueueState, asked_as, asked_by, fresh, answered_call, after_answer, IsWaitingAt}
-use Rattle.call_queue.specs.Asking.{Asks}
+use Rattle.agent_queue.specs.Queue.{Queued, QueueState, asked_as, asked_by, fresh, answered_call, after_answer, IsWaitingAt}
+use Rattle.agent_queue.specs.Asking.{Asks}
 use Rattle.agent_control.specs.Speaking.{IsTellable, IsSpoken, MayTell, StaysOpen, IsAskedNow, OpenAfter, terminated}
 use Rattle.agent_task.specs.Asking.{IsUnderWay, IsReported, IsReportedEarly, CallStands, CallsStand}
 use Rattle.agent_task.proofs.AnswerLaws.{asked_ident, named}

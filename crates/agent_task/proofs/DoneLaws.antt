@@ -31,12 +31,12 @@ use Rattle.task_duties.proofs.Places.{same_self, no_control}
 use Rattle.control_port.specs.Port.{PortState}
 use Rattle.control_port.specs.Talking.{may_hear}
 use Rattle.control_port.specs.declared.talk.Talker.{Talker}
-use Rattle.call_queue.specs.Queue.{Queued, QueueState, asked_as, asked_by}
-use Rattle.call_queue.proofs.AskingLaws.{asks_in_order, asks_within}
-use Rattle.data_slots.specs.Slots.{Called, Serves, Held, held_at, AreApart}
-use Rattle.data_slots.specs.Done.{AreBack, ReportsCalled, ReportsServes}
-use Rattle.data_slots.specs.declared.done.CallOver.{CallOver}
-use Rattle.data_slots.proofs.AgentLaws.{same_ends, end_there}
+use Rattle.agent_queue.specs.Queue.{Queued, QueueState, asked_as, asked_by}
+use Rattle.agent_queue.proofs.AskingLaws.{asks_in_order, asks_within}
+use Rattle.agent_slots.specs.Slots.{Called, Serves, Held, held_at, AreApart}
+use Rattle.agent_slots.specs.Done.{AreBack, ReportsCalled, ReportsServes}
+use Rattle.agent_slots.specs.declared.done.CallOver.{CallOver}
+use Rattle.agent_slots.proofs.AgentLaws.{same_ends, end_there}
 use Rattle.agent_task.specs.declared.agent.Agent.{Agent}
 use Rattle.agent_task.specs.declared.agent.Given.{Given}
 use Rattle.agent_task.specs.declared.task.AgentDone.{AgentDone}

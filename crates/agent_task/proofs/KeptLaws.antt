@@ -13,7 +13,7 @@ use Rattle.task_duties.specs.declared.done.ControlEnd.{ControlEnd}
 use Rattle.task_duties.specs.declared.done.SessionEnd.{SessionEnd}
 use Rattle.task_duties.specs.Agent.Answers.{Answer, Waits, Asked}
 use Rattle.task_duties.specs.Agent.Saying.{asking}
-use Rattle.data_slots.specs.Slots.{Called}
+use Rattle.agent_slots.specs.Slots.{Called}
 use Rattle.agent_control.specs.Speaking.{IsSpoken, terminated}
 use Rattle.agent_task.specs.Ends.{session_of_answer, session_asked, session_told, sessions_owed, session_called, session_of_end, sessions_known, sessions_held, AreKept}
 use Rattle.agent_task.specs.Standing.{called_by, called_of}

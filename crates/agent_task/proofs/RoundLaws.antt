@@ -19,7 +19,7 @@ use Rattle.control_port.specs.Port.{PortState, HasSaid, HasHeardAll, OnlySends}
 use Rattle.control_port.specs.Talking.{may_hear}
 use Rattle.agent_control.specs.declared.control.AgentControl.{AgentControl}
 use Rattle.agent_control.specs.Speaking.{SaysMore}
-use Rattle.data_slots.specs.Slots.{held_at}
+use Rattle.agent_slots.specs.Slots.{held_at}
 use Rattle.agent_task.specs.declared.agent.Agent.{Agent}
 use Rattle.agent_task.specs.declared.agent.Given.{Given}
 use Rattle.agent_task.specs.Given.{data_ends}

@@ -12,10 +12,10 @@ use Rattle.task_duties.specs.declared.done.ControlEnd.{ControlEnd}
 use Rattle.task_duties.specs.declared.done.SessionEnd.{SessionEnd}
 use Rattle.task_duties.specs.Agent.Answers.{Answer, At}
 use Rattle.task_duties.specs.Agent.Saying.{is_at, AsksToServe}
-use Rattle.call_queue.specs.Queue.{asked_by}
-use Rattle.data_slots.specs.Sessions.{Session, AllTakeTurns, TakesTurn, session_at}
-use Rattle.data_slots.specs.Slots.{Called, Serves, SlotsState}
-use Rattle.data_slots.specs.Done.{IsBegun, IsToldOver, TellsMore}
+use Rattle.agent_queue.specs.Queue.{asked_by}
+use Rattle.agent_slots.specs.Sessions.{Session, AllTakeTurns, TakesTurn, session_at}
+use Rattle.agent_slots.specs.Slots.{Called, Serves, SlotsState}
+use Rattle.agent_slots.specs.Done.{IsBegun, IsToldOver, TellsMore}
 use Rattle.agent_control.specs.Speaking.{MayTell, IsTellable}
 use Rattle.agent_task.specs.declared.agent.Agent.{Agent}
 use Rattle.agent_task.specs.Standing.{Stands, AreAskedFor, IsUp, KeepsOpen, OnlyTells, called_by, called_of}

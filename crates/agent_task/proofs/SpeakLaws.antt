@@ -11,8 +11,8 @@ use Rattle.qrexec_frame.specs.declared.message.Message.TheVariants as m
 use Rattle.task_duties.specs.declared.done.SessionEnd.{SessionEnd}
 use Rattle.task_duties.specs.Agent.Answers.{Answer, Waits, Asked, waits, waits_as, answered}
 use Rattle.task_duties.specs.Agent.Saying.{is_at, AsksToServe, IsTold}
-use Rattle.call_queue.specs.Queue.{QueueState, asked_by}
-use Rattle.call_queue.specs.Asking.{Asks}
+use Rattle.agent_queue.specs.Queue.{QueueState, asked_by}
+use Rattle.agent_queue.specs.Asking.{Asks}
 use Rattle.agent_control.specs.declared.control.AgentControl.{AgentControl}
 use Rattle.agent_control.specs.Speaking.{MayTell, IsTellable, Speaks}
 

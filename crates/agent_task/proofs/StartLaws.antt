@@ -15,9 +15,9 @@ use Rattle.control_port.specs.Talking.{may_hear}
 use Rattle.qrexec_data.specs.declared.outcome.SessionFault.{SessionFault}
 use Rattle.task_duties.specs.Hearing.{hears}
 use Rattle.control_port.specs.declared.talk.Talker.TheVariants.{Agent as OfAgent}
-use Rattle.call_queue.specs.Queue.{QueueState, fresh, asked_as, asked_by}
-use Rattle.data_slots.specs.Sessions.{NotBegun}
-use Rattle.data_slots.specs.Slots.{Called, SlotsState, held_at, AreApart}
+use Rattle.agent_queue.specs.Queue.{QueueState, fresh, asked_as, asked_by}
+use Rattle.agent_slots.specs.Sessions.{NotBegun}
+use Rattle.agent_slots.specs.Slots.{Called, SlotsState, held_at, AreApart}
 use Rattle.agent_control.specs.Speaking.{IsTellable}
 use Rattle.agent_task.specs.declared.agent.Agent.{Agent}
 use Rattle.agent_task.specs.declared.agent.Given.{Given}
@@ -26,7 +26,7 @@ use Rattle.agent_task.specs.Standing.{called_of, IsServedBy, AreAskedFor}
 use Rattle.agent_task.specs.Ending.{IsRunning}
 use Rattle.agent_task.proofs.PortLaws.{same_end_is}
 use Rattle.task_duties.specs.declared.done.ControlEnd.{ControlEnd}
-use Rattle.data_slots.specs.Sides.{late_places}
+use Rattle.agent_slots.specs.Sides.{late_places}
 use Rattle.agent_task.specs.Ends.{AreKept}
 use Rattle.agent_task.specs.Asking.{CallsStand}
 use Rattle.agent_task.proofs.AskingLaws.{calls_fresh}

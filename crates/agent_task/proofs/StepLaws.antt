@@ -16,9 +16,9 @@ use Rattle.task_duties.specs.Places.{has_place, without}
 use Rattle.task_duties.specs.Words.{service_of_line}
 use Rattle.task_duties.specs.Agent.Answers.{IsRefused, At, Answers, waits_as, answered, serves, takes, answers, nothing_heard}
 use Rattle.task_duties.specs.Agent.Saying.{AsksToServe}
-use Rattle.call_queue.specs.Queue.{Queued, QueueState, asked_as, asked_by, after_answer, IsWaitingAt}
-use Rattle.call_queue.specs.Asking.{Asks}
-use Rattle.data_slots.specs.Slots.{Called, Serves, SlotsState}
+use Rattle.agent_queue.specs.Queue.{Queued, QueueState, asked_as, asked_by, after_answer, IsWaitingAt}
+use Rattle.agent_queue.specs.Asking.{Asks}
+use Rattle.agent_slots.specs.Slots.{Called, Serves, SlotsState}
 use Rattle.agent_control.specs.Speaking.{IsTellable, Speaks}
 use Rattle.agent_task.specs.declared.agent.Agent.{Agent}
 use Rattle.agent_task.specs.Given.{plan_of}

@@ -15,13 +15,13 @@ use Rattle.task_duties.specs.Hearing.{to_agent, to_broker, IsSaid, Heard, hears}
 use Rattle.task_duties.specs.TaskOwes.{EndAt, places_in}
 use Rattle.task_duties.specs.Agent.Answers.{Answer, Waits, IsRefused, At, answers}
 use Rattle.task_duties.specs.Agent.Saying.{asking_of}
-use Rattle.call_queue.specs.Queue.{Queued, asked_as, asked_by}
+use Rattle.agent_queue.specs.Queue.{Queued, asked_as, asked_by}
 use Rattle.control_port.specs.Port.{PortState, HasSaid, HasHeardAll, SentWhole}
 use Rattle.control_port.specs.Talking.{may_say, may_hear}
 use Rattle.control_port.specs.declared.talk.Talker.{Talker}
 use Rattle.control_port.specs.declared.talk.Talker.TheVariants.{Agent as OfAgent}
-use Rattle.data_slots.specs.Slots.{held_at, place_at}
-use Rattle.data_slots.specs.Agreeing.{places_free, places_of, SessionStands, IsOpenAt, Agrees}
+use Rattle.agent_slots.specs.Slots.{held_at, place_at}
+use Rattle.agent_slots.specs.Agreeing.{places_free, places_of, SessionStands, IsOpenAt, Agrees}
 use Rattle.agent_control.specs.Speaking.{IsTellable}
 use Rattle.agent_task.specs.declared.agent.Agent.{Agent}
 use Rattle.agent_task.specs.Given.{plan_of, data_ends}

@@ -7,7 +7,7 @@ use Rattle.qrexec_frame.specs.declared.message.Message.TheVariants.{Terminated}
 use Rattle.task_duties.specs.declared.done.SessionEnd.{SessionEnd}
 use Rattle.task_duties.specs.Agent.Answers.{Answer, Waits, IsRefused, At}
 use Rattle.task_duties.specs.Agent.Saying.{asking}
-use Rattle.call_queue.specs.Queue.{Queued, QueueState}
+use Rattle.agent_queue.specs.Queue.{Queued, QueueState}
 
 -- the session of the call at a place is open, or its end waits to be reported
 abbrev pub IsUnderWay : List SessionEnd → List SessionEnd → ℕ → Type 0

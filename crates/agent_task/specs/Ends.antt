@@ -6,7 +6,7 @@ use Rattle.qrexec_frame.specs.declared.message.Message.TheVariants.{Exec, JustEx
 use Rattle.task_duties.specs.declared.done.ControlEnd.{ControlEnd}
 use Rattle.task_duties.specs.declared.done.SessionEnd.{SessionEnd}
 use Rattle.task_duties.specs.Agent.Answers.{Answer, At, Asked}
-use Rattle.data_slots.specs.Slots.{Called}
+use Rattle.agent_slots.specs.Slots.{Called}
 
 -- a session is named by the domain at its other end and its port
 

@@ -5,7 +5,7 @@ use Rattle.task_duties.specs.declared.done.CallDone.{CallDone}
 use Rattle.task_duties.specs.declared.done.CallEnd.{CallEnd}
 use Rattle.task_duties.specs.declared.done.CallEnd.TheVariants.{Session, Refused, Unanswered}
 use Rattle.task_duties.specs.Agent.Answers.{Answer, IsRefused, Asked}
-use Rattle.data_slots.specs.declared.done.CallOver.{CallOver}
+use Rattle.agent_slots.specs.declared.done.CallOver.{CallOver}
 
 -- what comes of a call, by its answer and what came of its session
 abbrev pub call_end_of : Answer → Option CallOver → CallEnd

@@ -17,9 +17,9 @@ use Rattle.task_duties.specs.Agent.Sessions.{IsService}
 use Rattle.task_duties.specs.Agent.Saying.{AsksToServe}
 use Rattle.control_port.specs.Port.{PortState, HasHeard, HasHeardAll}
 use Rattle.control_port.specs.declared.talk.Talker.TheVariants.{Agent as OfAgent}
-use Rattle.call_queue.specs.Queue.{QueueState, asked_by}
-use Rattle.data_slots.specs.Sessions.{KeepsSessions}
-use Rattle.data_slots.specs.Slots.{Called, Serves, SlotsState, held_at, AreApart}
+use Rattle.agent_queue.specs.Queue.{QueueState, asked_by}
+use Rattle.agent_slots.specs.Sessions.{KeepsSessions}
+use Rattle.agent_slots.specs.Slots.{Called, Serves, SlotsState, held_at, AreApart}
 use Rattle.agent_control.specs.Speaking.{Speaks}
 use Rattle.agent_task.specs.declared.agent.Given.{Given}
 use Rattle.agent_task.specs.declared.agent.Agent.{Agent}

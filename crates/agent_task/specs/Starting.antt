@@ -10,11 +10,11 @@ use Rattle.task_duties.specs.TaskOwes.{places_in}
 use Rattle.task_duties.specs.Words.{ident_of}
 use Rattle.control_port.specs.Port.{PortState, HasSaid, HasHeard}
 use Rattle.control_port.specs.declared.talk.Talker.TheVariants.{Agent as OfAgent}
-use Rattle.call_queue.specs.Queue.{QueueState, fresh, asked_by}
-use Rattle.call_queue.specs.Asking.{Asks}
-use Rattle.data_slots.specs.Sessions.{NotBegun}
-use Rattle.data_slots.specs.Sides.{late_places}
-use Rattle.data_slots.specs.Slots.{SlotsState, held_at, AreApart}
+use Rattle.agent_queue.specs.Queue.{QueueState, fresh, asked_by}
+use Rattle.agent_queue.specs.Asking.{Asks}
+use Rattle.agent_slots.specs.Sessions.{NotBegun}
+use Rattle.agent_slots.specs.Sides.{late_places}
+use Rattle.agent_slots.specs.Slots.{SlotsState, held_at, AreApart}
 use Rattle.agent_task.specs.declared.agent.Given.{Given}
 use Rattle.agent_task.specs.Given.{data_ends}
 

@@ -13,11 +13,11 @@ use Rattle.task_duties.specs.Agent.Answers.{Answer, Waits, IsRefused, At, Answer
 use Rattle.task_duties.specs.Agent.Saying.{asking, asking_of}
 use Rattle.control_port.specs.Port.{HasSaid, HasHeardAll}
 use Rattle.control_port.specs.declared.talk.Talker.TheVariants.{Agent as OfAgent}
-use Rattle.call_queue.specs.Queue.{Queued, asked_by}
+use Rattle.agent_queue.specs.Queue.{Queued, asked_by}
 use Rattle.agent_control.specs.declared.control.AgentControl.{AgentControl}
-use Rattle.data_slots.specs.Slots.{place_at, late_count}
-use Rattle.data_slots.specs.Sessions.{Session, NotBegun, is_open, session_at, TakesTurn}
-use Rattle.data_slots.specs.Agreeing.{places_free, SessionStands}
+use Rattle.agent_slots.specs.Slots.{place_at, late_count}
+use Rattle.agent_slots.specs.Sessions.{Session, NotBegun, is_open, session_at, TakesTurn}
+use Rattle.agent_slots.specs.Agreeing.{places_free, SessionStands}
 use Rattle.agent_task.specs.declared.agent.Agent.{Agent}
 use Rattle.agent_task.specs.Given.{plan_of, ends_of}
 use Rattle.agent_task.specs.Ends.{session_told, session_of_end}

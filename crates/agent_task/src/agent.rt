@@ -1,15 +1,15 @@
 //! An agent between two turns, and what it was given.
 ghost use Rattle.std.specs.Prelude.{◌≡◌, ◌≢◌, ◌⊎◌, ◌<◌, ◌++◌, [], Some, None, IfSome, OnOk, length};
 ghost use Rattle.agent_task.specs.Standing.{IsUp, CanGiveUp, HasSameEnds, KeepsPort, OnlyTells};
-ghost use Rattle.data_slots.specs.Agreeing.{Agrees};
-ghost use Rattle.data_slots.specs.Slots.{late_count};
-ghost use Rattle.data_slots.specs.Sessions.{AllTakeTurns};
+ghost use Rattle.agent_slots.specs.Agreeing.{Agrees};
+ghost use Rattle.agent_slots.specs.Slots.{late_count};
+ghost use Rattle.agent_slots.specs.Sessions.{AllTakeTurns};
 ghost use Rattle.agent_task.specs.Moving.{SaysNoMore, TurnsControl, KeepsControl, asked_at_most};
 ghost use Rattle.agent_task.specs.State.{TurnsEach};
 ghost use Rattle.agent_task.specs.Ending.{IsRunning};
 
 use agent_control::AgentControl;
-use data_slots::DataSlots;
+use agent_slots::DataSlots;
 use scenario_file::CallPlan;
 use std::alloc::Global;
 use std::snapshot::Snapshot;

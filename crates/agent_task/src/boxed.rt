@@ -1,6 +1,6 @@
 //! An agent on the heap, whose memory is there before its ends are put in.
 ghost use Rattle.std.specs.Prelude.{◌≡◌, ◌≢◌, ◌⊎◌, ◌<◌, [], false, Some, None, IsSomeAnd, IfSome, IsSome, OnOk, length};
-ghost use Rattle.data_slots.specs.Agreeing.{Agrees};
+ghost use Rattle.agent_slots.specs.Agreeing.{Agrees};
 ghost use Rattle.agent_task.specs.Standing.{CanGiveUp};
 ghost use Rattle.agent_task.specs.Ending.{IsOver, IsRunning};
 ghost use Rattle.agent_task.specs.Moving.{TurnsChannel, KeepsChannel};

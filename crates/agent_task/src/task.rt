@@ -2,15 +2,15 @@
 ghost use Rattle.std.specs.Prelude.{◌<◌, IfOk, length, map};
 ghost use Rattle.std.specs.List.{AllByRecursion as Each};
 ghost use Rattle.list_laws.specs.Lists.{AreDifferent};
-ghost use Rattle.call_queue.specs.Queue.{FitsTrigger};
+ghost use Rattle.agent_queue.specs.Queue.{FitsTrigger};
 ghost use Rattle.agent_task.specs.Starting.{IsNewQueue};
 
 use crate::agent::{Agent, Given};
 use crate::boxed::{go_round, over_at, taken};
 use agent_control::AgentControl;
-use call_queue::CallQueue;
+use agent_queue::CallQueue;
+use agent_slots::DataSlots;
 use control_port::{ControlPort, Talker};
-use data_slots::DataSlots;
 use scenario_file::CallPlan;
 use std::alloc::Global;
 use std::collections::VecDeque;
@@ -85,8 +85,8 @@ impl<'p> AgentTask<'p> {
     ghost use Rattle.task_duties.specs.TaskOwes.{Agent as AgentWith, AreGivenBack, agent_given, places_in};
     ghost use Rattle.task_duties.specs.GivenEnds.{all_given, all_retired};
     ghost use Rattle.list_laws.specs.Lists.{AreDifferent};
-    ghost use Rattle.call_queue.specs.Queue.{FitsTrigger};
-    ghost use Rattle.data_slots.specs.Slots.{IsGiven, AreApart};
+    ghost use Rattle.agent_queue.specs.Queue.{FitsTrigger};
+    ghost use Rattle.agent_slots.specs.Slots.{IsGiven, AreApart};
     ghost use Rattle.agent_task.specs.Given.{given_of, plan_of};
     ghost use Rattle.agent_task.specs.State.{AgentState, task_given};
     ghost use Rattle.agent_task.specs.Ending.{IsOver};

@@ -22,10 +22,10 @@ use Rattle.control_port.specs.contracts.port.ControlPort as port
 use Rattle.control_port.specs.contracts.port.ControlPort.TheInside as port_inside
 use Rattle.scenario_file.proofs.scenario.CallPlan.TheSendSync as plan
 use Rattle.scenario_file.specs.contracts.scenario.CallPlan as call_plan
-use Rattle.call_queue.proofs.call.CallAnswer.TheSendSync as answer
-use Rattle.call_queue.specs.contracts.call.QueuedCall as queued
-use Rattle.call_queue.specs.contracts.queue.CallQueue as queue
-use Rattle.call_queue.specs.contracts.queue.CallQueue.TheInside as queue_inside
+use Rattle.agent_queue.proofs.call.CallAnswer.TheSendSync as answer
+use Rattle.agent_queue.specs.contracts.call.QueuedCall as queued
+use Rattle.agent_queue.specs.contracts.queue.CallQueue as queue
+use Rattle.agent_queue.specs.contracts.queue.CallQueue.TheInside as queue_inside
 use Rattle.agent_control.specs.contracts.control.AgentControl as control
 use Rattle.channel_session.proofs.Sent.{caller_send, serving_send}
 use Rattle.qrexec_data.proofs.serving.Serving.TheSendSync as serving
@@ -42,14 +42,14 @@ use Rattle.task_duties.specs.contracts.ends.DoneEnd as done
 use Rattle.task_duties.specs.contracts.ends.RetiredEnd as retired_end
 use Rattle.task_duties.proofs.place.PagePlace.TheSendSync as place
 use Rattle.task_duties.specs.contracts.ends.DataEnd as data_end
-use Rattle.data_slots.specs.contracts.note.CallNote as call_note
-use Rattle.data_slots.specs.contracts.note.ServedNote as served_note
-use Rattle.data_slots.specs.contracts.side.PageSide as side
-use Rattle.data_slots.specs.contracts.stage.Stage as stage
-use Rattle.data_slots.specs.contracts.slot.Slot as slot
-use Rattle.data_slots.specs.contracts.ends.Ends as ends
-use Rattle.data_slots.specs.contracts.slots.DataSlots as slots
-use Rattle.data_slots.specs.contracts.slots.DataSlots.TheInside as slots_inside
+use Rattle.agent_slots.specs.contracts.note.CallNote as call_note
+use Rattle.agent_slots.specs.contracts.note.ServedNote as served_note
+use Rattle.agent_slots.specs.contracts.side.PageSide as side
+use Rattle.agent_slots.specs.contracts.stage.Stage as stage
+use Rattle.agent_slots.specs.contracts.slot.Slot as slot
+use Rattle.agent_slots.specs.contracts.ends.Ends as ends
+use Rattle.agent_slots.specs.contracts.slots.DataSlots as slots
+use Rattle.agent_slots.specs.contracts.slots.DataSlots.TheInside as slots_inside
 use Rattle.agent_task.specs.contracts.agent.Given as given
 use Rattle.agent_task.specs.contracts.agent.Agent as agent
 use Rattle.agent_task.specs.contracts.task.AgentDone as agent_done

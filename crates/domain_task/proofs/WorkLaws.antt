@@ -17,8 +17,8 @@ use Rattle.channel_session.specs.Calling.{CallerAt, CallerTurns}
 use Rattle.channel_session.specs.Answering.{ServingAt, ServingTurns}
 use Rattle.channel_session.specs.Turning.{KeepsBytes, HasMoved as BytesMoved}
 use Rattle.channel_session.proofs.KeepingLaws.{caller_keeps, serving_keeps}
-use Rattle.data_slots.specs.Sessions.{Session, NotBegun, CallsWith, AwaitsPage, ServesWith, EndedWith, session_at, is_open, got_in, sent_in, TakesTurn}
-use Rattle.data_slots.specs.Sessions as by
+use Rattle.agent_slots.specs.Sessions.{Session, NotBegun, CallsWith, AwaitsPage, ServesWith, EndedWith, session_at, is_open, got_in, sent_in, TakesTurn}
+use Rattle.agent_slots.specs.Sessions as by
 use Rattle.agent_control.specs.declared.control.AgentControl.{AgentControl}
 use Rattle.agent_task.specs.State.{AgentState, TurnsEach}
 use Rattle.agent_task.specs.Moving.{HearsNothing, SaysNoMore, HasNotGreeted, WasNotGreeted, HasStopped, TurnsControl, TurnsChannel, KeepsChannel}

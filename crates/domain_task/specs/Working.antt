@@ -11,7 +11,7 @@ use Rattle.channel_session.specs.declared.pause.Turned.{Turned}
 use Rattle.channel_session.specs.declared.pause.Turned.TheVariants.{Moved}
 use Rattle.channel_session.specs.Calling.{CallerAt, CallerTurns}
 use Rattle.channel_session.specs.Answering.{ServingAt, ServingTurns}
-use Rattle.data_slots.specs.Sessions.{Session, NotBegun, CallsWith, AwaitsPage, ServesWith, EndedWith, session_at, got_in, sent_in}
+use Rattle.agent_slots.specs.Sessions.{Session, NotBegun, CallsWith, AwaitsPage, ServesWith, EndedWith, session_at, got_in, sent_in}
 use Rattle.agent_control.specs.declared.control.AgentControl.{AgentControl}
 use Rattle.agent_task.specs.State.{AgentState}
 use Rattle.agent_task.specs.Moving.{HearsNothing}

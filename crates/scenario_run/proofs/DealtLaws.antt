@@ -18,7 +18,7 @@ use Rattle.task_duties.specs.TaskOwes.{Broker, EndAt, broker_ends, places_in}
 use Rattle.task_duties.specs.GivenEnds.{all_given, fresh_view}
 use Rattle.task_duties.proofs.Elements.{Has, each_of, has_filter_map, has_map_back}
 use Rattle.broker_task.specs.Given.{IsNewClient}
-use Rattle.data_slots.specs.Slots.{IsEndOf, IsGiven}
+use Rattle.agent_slots.specs.Slots.{IsEndOf, IsGiven}
 use Rattle.run_laws.specs.Laid.{agent_plan, awaited_by, client_of, hostile_plan, hub_of, is_data, places_of, server_of}
 use Rattle.run_laws.specs.Run.{IsPlace}
 use Rattle.run_laws.specs.Results.{IsGivenTo}

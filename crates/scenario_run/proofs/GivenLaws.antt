@@ -9,7 +9,7 @@ use Rattle.std.proofs.lemmas.List.Elements.{All-from_recursion, recursion_from_A
 use Rattle.std.proofs.lemmas.List.{length-map}
 use Rattle.list_laws.specs.Lists.{AreDifferent}
 use Rattle.call_broker.specs.Domains.{Domains, first_port}
-use Rattle.call_queue.specs.Queue.{FitsTrigger}
+use Rattle.agent_queue.specs.Queue.{FitsTrigger}
 use Rattle.broker_task.specs.Replies.{HasShortNames}
 use Rattle.scenario_file.specs.Scenario.{Plan as Scenario, DomainFits, IsScenario, hostile_at, is_hostile}
 use Rattle.scenario_file.specs.declared.scenario.CallPlan.{CallPlan}
@@ -25,7 +25,7 @@ use Rattle.task_duties.specs.GivenEnds.{all_given, fresh_view}
 use Rattle.task_duties.specs.Words.{ident_of}
 use Rattle.task_duties.proofs.Elements.{each_at, each_of, has_filter}
 use Rattle.task_duties.proofs.Places.{length_numbers}
-use Rattle.data_slots.specs.Slots.{IsEndOf, IsGiven}
+use Rattle.agent_slots.specs.Slots.{IsEndOf, IsGiven}
 use Rattle.hostile_task.specs.Plan.{AreDataOf}
 use Rattle.hostile_task.specs.declared.domain.HostileDomain.{HostileDomain}
 use Rattle.ring_words.specs.declared.page.Role.{Role}

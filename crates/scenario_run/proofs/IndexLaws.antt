@@ -7,7 +7,7 @@ use Rattle.list_laws.proofs.Tests.{same_number, equal_either_way}
 use Rattle.task_duties.specs.declared.place.PagePlace.{PagePlace}
 use Rattle.task_duties.specs.declared.place.PagePlace.TheVariants.{Control, Payload}
 use Rattle.task_duties.specs.Places.{is_place}
-use Rattle.data_slots.specs.Index.{PlaceIndex, same_key, end_at}
+use Rattle.agent_slots.specs.Index.{PlaceIndex, same_key, end_at}
 use Rattle.run_laws.specs.ReadOff.{index_of}
 use Rattle.scenario_run.specs.Index.{AreNumbers}
 

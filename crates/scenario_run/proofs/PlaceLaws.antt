@@ -10,7 +10,7 @@ use Rattle.task_duties.specs.declared.place.PagePlace.TheVariants.{Control, Payl
 use Rattle.task_duties.specs.Places.{is_place, numbers}
 use Rattle.task_duties.proofs.Elements.{Has, differ_numbers, each_at, each_of, has_append, has_filter, has_flat_map, has_map}
 use Rattle.task_duties.proofs.ServedLaw.{same_place}
-use Rattle.data_slots.specs.Slots.{AreApart}
+use Rattle.agent_slots.specs.Slots.{AreApart}
 use Rattle.hostile_task.specs.Plan.{AreApart as AreAllApart}
 use Rattle.run_laws.specs.Laid.{all_domains, is_end_of, laid, laid_between, places_of, ports_between}
 

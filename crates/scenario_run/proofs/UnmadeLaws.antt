@@ -6,7 +6,7 @@ use Rattle.task_duties.specs.declared.ends.DataEnd.{DataEnd}
 use Rattle.task_duties.specs.declared.ends.RetiredEnd.{RetiredEnd}
 use Rattle.task_duties.specs.TaskOwes.{AreGivenBack, EndAt, IsSameEnd}
 use Rattle.task_duties.specs.GivenEnds.{all_given, all_retired, fresh_view, retired_at}
-use Rattle.data_slots.specs.Slots.{IsGiven, held_at}
+use Rattle.agent_slots.specs.Slots.{IsGiven, held_at}
 
 -- whatever is given back of the ends that are left, with those that are retired already all are given back
 pub record IsGivingBack (given left : List EndAt) (made : List RetiredEnd) : Type 0 where

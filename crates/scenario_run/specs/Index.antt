@@ -3,7 +3,7 @@
 use Rattle.std.specs.Prelude.{◌≡◌, ℕ, ◌<◌, List, length, Some, None}
 use Rattle.task_duties.specs.declared.place.PagePlace.{PagePlace}
 use Rattle.task_duties.specs.declared.place.PagePlace.TheVariants.{Payload}
-use Rattle.data_slots.specs.Index.{PlaceIndex, end_at}
+use Rattle.agent_slots.specs.Index.{PlaceIndex, end_at}
 use Rattle.run_laws.specs.ReadOff.{index_of}
 use Rattle.scenario_run.specs.declared.page_index.PageIndex.{PageIndex}
 

@@ -10,7 +10,7 @@ use Rattle.task_duties.specs.TaskOwes.{TaskGiven, Agent, Hostile, broker_given, 
 use Rattle.task_duties.specs.declared.ends.UnmadeEnds.{UnmadeEnds}
 use Rattle.task_duties.specs.GivenEnds.{all_given}
 use Rattle.broker_task.specs.Given.{IsNewClient}
-use Rattle.data_slots.specs.Slots.{AreApart, IsGiven}
+use Rattle.agent_slots.specs.Slots.{AreApart, IsGiven}
 use Rattle.hostile_task.specs.Plan.{AreApart as AreAllApart}
 use Rattle.run_laws.specs.Laid.{agent_plan, awaited_by, calls_from, hostile_plan, hub_of}
 use Rattle.run_pages.specs.declared.deal.Hand.{Hand}

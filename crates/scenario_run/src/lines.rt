@@ -11,8 +11,8 @@ ghost use Rattle.scenario_run.specs.Lines.{HasReports, plain_result};
 
 use crate::answers::TaskReport;
 use crate::page_index::PageIndex;
+use agent_queue::ident_text;
 use call_broker::{Cause, Decision, Entry, Event};
-use call_queue::ident_text;
 use qrexec_data::Outcome;
 use qrexec_frame::{Bytes, Text, TextError};
 use run_laws::{CallLine, CallResult, MixedOutcome};

@@ -2,7 +2,7 @@
 ghost use Rattle.std.specs.Prelude.{◌≡◌, ◌<◌, ◌^◌, ◌++◌, ◌∷◌, [], List, length, map, IfOk, OnOk};
 ghost use Rattle.task_duties.specs.declared.place.PagePlace.{PagePlace as Place};
 ghost use Rattle.task_duties.specs.declared.place.PagePlace.TheVariants.{Payload};
-ghost use Rattle.data_slots.specs.Index.{end_at};
+ghost use Rattle.agent_slots.specs.Index.{end_at};
 ghost use Rattle.run_laws.specs.ReadOff.{index_of};
 ghost use Rattle.scenario_run.specs.Index.{AreNumbers, IsIndexOf};
 

@@ -6,9 +6,9 @@ ghost use Rattle.vchan_rule.specs.Seated.{view};
 ghost use Rattle.task_duties.specs.TaskOwes.{AreGivenBack, IsSameEnd, all_ends, broker_ends};
 ghost use Rattle.task_duties.specs.GivenEnds.{all_given, all_retired, retired_at};
 ghost use Rattle.broker_task.specs.Given.{IsNewClient};
-ghost use Rattle.data_slots.specs.Slots.{IsGiven};
+ghost use Rattle.agent_slots.specs.Slots.{IsGiven};
 
-use data_slots::retire_given;
+use agent_slots::retire_given;
 use task_duties::{DataEnd, DoneEnd, PagePlace, RetiredEnd};
 use vchan_lifecycle::retire;
 use vchan_rule::End;

@@ -16,7 +16,7 @@ use Rattle.task_duties.specs.Words.{ident_of}
 use Rattle.task_duties.specs.Agent.Answers.{Answer, Waits, IsRefused, At, Asked, waits, waits_as, nothing_heard}
 use Rattle.task_duties.specs.Agent.Saying.{Asking, asking, asking_of}
 use Rattle.task_duties.proofs.AnsweredLaw.{IsIdle, AnswersTo, answers_each}
-use Rattle.call_queue.specs.Queue.{Queued, asked_as, asked_by, is_open_to, open_idents, open_count, IsHeld}
+use Rattle.agent_queue.specs.Queue.{Queued, asked_as, asked_by, is_open_to, open_idents, open_count, IsHeld}
 use Rattle.agent_control.specs.declared.control.AgentControl.{AgentControl}
 use Rattle.agent_task.specs.Ends.{session_told, session_of_end}
 use Rattle.agent_task.specs.State.{AgentState, IsChannelOf, IsOpenFor, answers_so_far}

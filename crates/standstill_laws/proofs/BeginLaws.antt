@@ -5,8 +5,8 @@ use Rattle.task_duties.specs.declared.place.PagePlace.{PagePlace}
 use Rattle.task_duties.specs.Hearing.{hears, to_agent}
 use Rattle.task_duties.specs.Agent.Given.{AgentPlan}
 use Rattle.task_duties.specs.Agent.Answers.{answers}
-use Rattle.data_slots.specs.Sessions.{Session, NotBegun, session_at, TakesTurn, HadNotBegun, CallMade, ServingMade, PageCame, PageAwaited, IsOver, WasOver}
-use Rattle.data_slots.specs.Agreeing.{place_if_free, places_free}
+use Rattle.agent_slots.specs.Sessions.{Session, NotBegun, session_at, TakesTurn, HadNotBegun, CallMade, ServingMade, PageCame, PageAwaited, IsOver, WasOver}
+use Rattle.agent_slots.specs.Agreeing.{place_if_free, places_free}
 use Rattle.agent_task.specs.State.{answers_so_far}
 use Rattle.standstill_laws.specs.Asking.{NoSessionBegins}
 

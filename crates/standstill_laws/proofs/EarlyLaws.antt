@@ -29,7 +29,7 @@ use Rattle.task_duties.specs.Broker.Outbox.{outbox}
 use Rattle.task_duties.proofs.Elements.{Has, Comes, each_at, each_of, has_left, has_part, has_filter_map, has_filter_map_back, one_of}
 use Rattle.task_duties.proofs.JournalLaw.{asked_event, asked_in}
 use Rattle.task_duties.proofs.OutboxLaw.{IsConnect, put_by_entry, outbox_once, part_once, apart_from}
-use Rattle.call_queue.specs.Queue.{asked_by}
+use Rattle.agent_queue.specs.Queue.{asked_by}
 use Rattle.agent_control.specs.declared.control.AgentControl.{AgentControl}
 use Rattle.agent_task.specs.State.{IsChannelOf, answers_so_far}
 use Rattle.standstill_laws.specs.Asking.{heard_so_far}

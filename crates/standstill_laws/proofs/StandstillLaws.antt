@@ -12,8 +12,8 @@ use Rattle.call_broker.specs.Domains.{Domains, is_domain, count_of}
 use Rattle.call_broker.specs.Journal.{IsJournal, is_dropped}
 use Rattle.task_duties.specs.Broker.Outbox.{outbox, event_of}
 use Rattle.control_port.specs.declared.talk.Talker.TheVariants.{Agent}
-use Rattle.call_queue.specs.Queue.{IsHeld}
-use Rattle.data_slots.specs.Sessions.{Session, NotBegun, is_open, has_ended, session_at}
+use Rattle.agent_queue.specs.Queue.{IsHeld}
+use Rattle.agent_slots.specs.Sessions.{Session, NotBegun, is_open, has_ended, session_at}
 use Rattle.agent_control.specs.declared.control.AgentControl.{AgentControl}
 use Rattle.agent_task.specs.State.{AgentState, IsChannelOf, IsOpenSession, answers_so_far}
 use Rattle.broker_task.specs.Moving.{BrokerLine}

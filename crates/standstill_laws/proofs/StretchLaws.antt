@@ -17,8 +17,8 @@ use Rattle.channel_session.specs.declared.pause.Turned.{Turned}
 use Rattle.channel_session.specs.declared.pause.Turned.TheVariants.{Moved, Quiet, Passed}
 use Rattle.channel_session.specs.Calling.{CallerAt, CallerTurns}
 use Rattle.channel_session.specs.Answering.{ServingAt, ServingTurns, EndsBy}
-use Rattle.data_slots.specs.Sessions.{Session, CallsWith, ServesWith, session_at, got_in, sent_in}
-use Rattle.data_slots.specs.Agreeing.{SessionStands}
+use Rattle.agent_slots.specs.Sessions.{Session, CallsWith, ServesWith, session_at, got_in, sent_in}
+use Rattle.agent_slots.specs.Agreeing.{SessionStands}
 use Rattle.agent_control.specs.declared.control.AgentControl.{AgentControl}
 use Rattle.agent_task.specs.State.{AgentState}
 use Rattle.broker_task.specs.Given.{BrokerState}

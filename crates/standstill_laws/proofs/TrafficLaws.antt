@@ -40,7 +40,7 @@ use Rattle.agent_control.specs.declared.control.AgentControl.{AgentControl}
 use Rattle.agent_task.specs.State.{AgentState, TellsSoFar, IsChannelOf, answers_so_far}
 use Rattle.agent_task.specs.Telling.{TellsOnce, heard_on}
 use Rattle.agent_task.specs.Ends.{session_told, session_asked, session_of_answer}
-use Rattle.call_queue.specs.Queue.{asked_by}
+use Rattle.agent_queue.specs.Queue.{asked_by}
 use Rattle.broker_task.specs.Standing.{IsAttended}
 use Rattle.standstill_laws.specs.Traffic.{HasSpoken, AgentsSpeak, IsControlPage, messages_across, bytes_across, ControlMessagesAreFew, call_bytes, ControlBytesAreFew}
 use Rattle.standstill_laws.proofs.ControlLaws.{all_good}

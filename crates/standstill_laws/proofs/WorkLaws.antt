@@ -16,7 +16,7 @@ use Rattle.qrexec_data.proofs.MaySendLaws.{caller_may_send, serving_may_send}
 use Rattle.call_broker.specs.Domains.{Domains, count_of, name_of}
 use Rattle.scenario_file.specs.declared.scenario.CallPlan.{CallPlan}
 use Rattle.task_duties.specs.Agent.Sessions.{chunk}
-use Rattle.data_slots.specs.Sessions.{Session, NotBegun}
+use Rattle.agent_slots.specs.Sessions.{Session, NotBegun}
 use Rattle.agent_task.specs.State.{AgentState}
 use Rattle.broker_task.specs.Given.{BrokerState}
 use Rattle.broker_task.specs.Letters.{IsAt}

@@ -8,8 +8,8 @@ use Rattle.task_duties.specs.Words.{ident_of}
 use Rattle.task_duties.specs.Agent.Answers.{At, Asked, waits}
 use Rattle.task_duties.specs.Agent.Saying.{asking, asking_of}
 use Rattle.task_duties.proofs.ServedLaw.{AreApart, IsUnusedBy}
-use Rattle.call_queue.specs.Queue.{IsHeld}
-use Rattle.data_slots.specs.Sessions.{NotBegun, session_at}
+use Rattle.agent_queue.specs.Queue.{IsHeld}
+use Rattle.agent_slots.specs.Sessions.{NotBegun, session_at}
 use Rattle.agent_control.specs.declared.control.AgentControl.{AgentControl}
 use Rattle.agent_task.specs.Ends.{session_told}
 use Rattle.agent_task.specs.Asking.{IsReportedEarly}

@@ -11,7 +11,7 @@ use Rattle.qrexec_data.specs.Sending.{CallerMaySend, ServingMaySend}
 use Rattle.qrexec_data.specs.Laws.{IsVersion}
 use Rattle.channel_session.specs.Calling.{CallerAt, IsCalling}
 use Rattle.channel_session.specs.Answering.{ServingAt, IsAnswering}
-use Rattle.data_slots.specs.Sessions.{CallsWith, ServesWith}
+use Rattle.agent_slots.specs.Sessions.{CallsWith, ServesWith}
 use Rattle.call_broker.specs.declared.decision.Entry.{Entry}
 use Rattle.call_broker.specs.Domains.{Domains}
 use Rattle.task_duties.specs.Broker.Outbox.{outbox}

@@ -15,7 +15,7 @@ use Rattle.vchan_packet.specs.declared.SendAnswer.TheVariants.{Sent, NoRoom, Pee
 use Rattle.qrexec_frame.specs.Messages.{written}
 use Rattle.qrexec_frame.specs.declared.message.Message.TheVariants.{Hello}
 use Rattle.task_duties.specs.Broker.Owes.{broker_version}
-use Rattle.call_queue.specs.Queue.{IsHeld}
+use Rattle.agent_queue.specs.Queue.{IsHeld}
 use Rattle.agent_control.specs.declared.control.AgentControl.{AgentControl}
 use Rattle.agent_control.specs.Speaking.{terminated}
 use Rattle.agent_control.specs.Stopping.{FindsLess, Stops, AtAnEnd, AtTheLimit, AtATrigger, HoldsBack, NothingIsDue, HasLessRoom, DidNotGo}

@@ -16,8 +16,8 @@ use Rattle.vchan_lifecycle.specs.Lifecycle.{FindsNotYet}
 use Rattle.channel_session.specs.declared.pause.Turned.TheVariants.{Quiet}
 use Rattle.channel_session.specs.Calling.{CallerAt, CallerTurns}
 use Rattle.channel_session.specs.Answering.{ServingAt, ServingTurns}
-use Rattle.data_slots.specs.Sessions.{Session, CallsWith, ServesWith, EndedWith, has_ended}
-use Rattle.data_slots.specs.Agreeing.{SessionStands}
+use Rattle.agent_slots.specs.Sessions.{Session, CallsWith, ServesWith, EndedWith, has_ended}
+use Rattle.agent_slots.specs.Agreeing.{SessionStands}
 use Rattle.standstill_laws.specs.Turns.{IsQuietStill}
 use Rattle.qrexec_data.specs.Laws.{IsVersion}
 

@@ -18,7 +18,7 @@ use Rattle.task_duties.specs.Broker.Owes.{broker_version, awaited_of}
 use Rattle.task_duties.proofs.ServedLaw.{IsUnusedBy}
 use Rattle.control_port.specs.Port.{PortState}
 use Rattle.control_port.specs.declared.talk.Talker.TheVariants.{Broker}
-use Rattle.data_slots.specs.Sessions.{Session, is_open, session_at}
+use Rattle.agent_slots.specs.Sessions.{Session, is_open, session_at}
 use Rattle.agent_control.specs.declared.control.AgentControl.{AgentControl}
 use Rattle.agent_control.specs.Stopping.{Stops}
 use Rattle.agent_task.specs.State.{AgentState, TellsSoFar}

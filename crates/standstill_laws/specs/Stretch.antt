@@ -6,8 +6,8 @@ use Rattle.vchan_protocol.specs.declared.call.EndState.TheVariants.{Open}
 use Rattle.vchan_protocol.specs.declared.side.Side.{Side}
 use Rattle.vchan_protocol.specs.History.Core.{Core}
 use Rattle.vchan_protocol.specs.Honest.Lawful.{Lawful}
-use Rattle.data_slots.specs.Sessions.{Session, CallsWith, ServesWith, session_at}
-use Rattle.data_slots.specs.Agreeing.{SessionStands}
+use Rattle.agent_slots.specs.Sessions.{Session, CallsWith, ServesWith, session_at}
+use Rattle.agent_slots.specs.Agreeing.{SessionStands}
 use Rattle.agent_control.specs.declared.control.AgentControl.{AgentControl}
 use Rattle.broker_task.specs.Letters.{IsAt}
 use Rattle.broker_task.specs.Moving.{BrokerLine}

@@ -18,8 +18,8 @@ use Rattle.call_broker.specs.declared.decision.Entry.{Entry}
 use Rattle.call_broker.specs.Domains.{Domains, count_of, name_of}
 use Rattle.scenario_file.specs.declared.scenario.CallPlan.{CallPlan}
 use Rattle.task_duties.specs.Agent.Sessions.{chunk}
-use Rattle.data_slots.specs.Sessions.{Session, CallsWith, ServesWith, got_in, sent_in}
-use Rattle.data_slots.specs.Agreeing.{SessionStands}
+use Rattle.agent_slots.specs.Sessions.{Session, CallsWith, ServesWith, got_in, sent_in}
+use Rattle.agent_slots.specs.Agreeing.{SessionStands}
 use Rattle.agent_task.specs.State.{AgentState}
 use Rattle.broker_task.specs.Given.{BrokerState}
 use Rattle.broker_task.specs.Letters.{IsAt}

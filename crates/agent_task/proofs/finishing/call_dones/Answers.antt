@@ -2,7 +2,7 @@ use Rattle.std.proofs.Common.{◌≡◌, ◌<◌, ◌++◌, ◌∷◌, [], ap, s
 use Rattle.std.specs.Prelude.{slice_get}
 use Rattle.std.specs.Vec.Iter.{into_iter_items}
 use Rattle.list_laws.proofs.Places.{get_within}
-use Rattle.call_queue.specs.Queue.{asked_by}
+use Rattle.agent_queue.specs.Queue.{asked_by}
 use Rattle.agent_task.specs.Finishing.{call_dones}
 use Rattle.agent_task.proofs.DoneLaws.{dones_step}
 use Rattle.agent_task.proofs.finishing.call_dones.Goals as goal

@@ -1,6 +1,6 @@
 use Rattle.std.proofs.Common.{◌≡◌, ◌+◌, ◌++◌, length, drop}
 use Rattle.std.specs.Vec.Iter.{into_iter_items}
-use Rattle.call_queue.specs.Queue.{asked_by}
+use Rattle.agent_queue.specs.Queue.{asked_by}
 use Rattle.agent_task.specs.Finishing.{call_dones}
 use Rattle.agent_task.proofs.finishing.call_dones.Given as goal
 

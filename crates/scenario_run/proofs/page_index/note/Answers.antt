@@ -1,6 +1,6 @@
 use Rattle.std.proofs.Common.{◌≡◌, ◌++◌, ◌∷◌, [], sym, subst, None, rules}
 use Rattle.task_duties.specs.declared.place.PagePlace.{PagePlace}
-use Rattle.data_slots.specs.Index.{end_at}
+use Rattle.agent_slots.specs.Index.{end_at}
 use Rattle.scenario_run.specs.Index.{AreNumbers}
 use Rattle.scenario_run.proofs.IndexLaws.{known_more, new_more, other_more}
 use Rattle.scenario_run.proofs.page_index.note.Goals as goal

@@ -2,7 +2,7 @@ use Rattle.std.proofs.Common.{map, subst, sym}
 use Rattle.std.specs.List.{AllByRecursion as Each}
 use Rattle.list_laws.specs.Lists.{AreDifferent}
 use Rattle.scenario_file.specs.declared.scenario.CallPlan.{CallPlan}
-use Rattle.call_queue.specs.Queue.{FitsTrigger}
+use Rattle.agent_queue.specs.Queue.{FitsTrigger}
 use Rattle.scenario_run.proofs.GivenLaws.{calls_fit_lem, numbers_differ}
 use Rattle.scenario_run.proofs.tasks.agent.Goals as goal
 

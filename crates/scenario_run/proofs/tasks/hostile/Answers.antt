@@ -7,7 +7,7 @@ use Rattle.scenario_file.specs.Scenario.{is_hostile}
 use Rattle.scenario_file.specs.declared.acts.Acts.{Acts}
 use Rattle.scenario_file.specs.declared.scenario.Domain.{Domain}
 use Rattle.task_duties.specs.GivenEnds.{all_given}
-use Rattle.data_slots.specs.Slots.{IsGiven}
+use Rattle.agent_slots.specs.Slots.{IsGiven}
 use Rattle.run_pages.specs.Dealt.{IsLaidWith}
 use Rattle.run_pages.proofs.HostileLaws.{all_laid}
 use Rattle.scenario_run.proofs.GivenLaws.{data_of}

@@ -1,5 +1,5 @@
 use Rattle.std.proofs.Common.{subst, arith}
-use Rattle.call_queue.specs.Queue.{HasToSay}
+use Rattle.agent_queue.specs.Queue.{HasToSay}
 use Rattle.agent_control.specs.Speaking.{Says}
 use Rattle.vchan_packet.specs.Packet.{FailsToSend}
 use Rattle.qrexec_frame.specs.Messages.{written}

@@ -1,5 +1,5 @@
 use Rattle.std.proofs.Common.{◌+◌, sym, ap, ◌∙◌, refl, inl, subst, arith}
-use Rattle.call_queue.specs.Queue.{QueueState, HasToSayOfLen}
+use Rattle.agent_queue.specs.Queue.{QueueState, HasToSayOfLen}
 use Rattle.qrexec_frame.specs.declared.message.Message.TheVariants.{Terminated}
 use Rattle.agent_control.specs.Stopping.{FindsLess, Unless}
 use Rattle.agent_control.proofs.StoppingLaws.{has_less_room, unless_holds}

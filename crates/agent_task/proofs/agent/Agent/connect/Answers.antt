@@ -1,6 +1,6 @@
 use Rattle.std.proofs.Common.{◌∙◌, ap, sym, subst}
 use Rattle.list_laws.proofs.Results.{on_ok}
-use Rattle.call_queue.specs.Queue.{QueueState}
+use Rattle.agent_queue.specs.Queue.{QueueState}
 use Rattle.qrexec_frame.specs.declared.message.Message.TheVariants.{Connect}
 use Rattle.agent_task.specs.Standing.{Awaits}
 use Rattle.agent_task.proofs.StepLaws.{connect_no_call, connect_no_end, connect_taken, call_number}

@@ -2,7 +2,7 @@ use Rattle.std.proofs.Common.{refl, ap, subst}
 use Rattle.end_view.specs.EndView.{EndView}
 use Rattle.task_duties.specs.TaskOwes.{EndAt}
 use Rattle.task_duties.specs.GivenEnds.{all_retired}
-use Rattle.data_slots.specs.Done.{AreBack}
+use Rattle.agent_slots.specs.Done.{AreBack}
 use Rattle.agent_task.proofs.RoundLaws.{over_rests}
 use Rattle.agent_task.proofs.DoneLaws.{done_owes, done_tells, calls_long, given_back}
 use Rattle.agent_task.proofs.agent.Agent.finish.Goals as goal

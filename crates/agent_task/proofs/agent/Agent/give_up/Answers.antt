@@ -1,7 +1,7 @@
 use Rattle.std.proofs.Common.{subst}
 use Rattle.task_duties.specs.TaskOwes.{EndAt}
 use Rattle.task_duties.specs.GivenEnds.{all_retired}
-use Rattle.data_slots.specs.Done.{AreBack}
+use Rattle.agent_slots.specs.Done.{AreBack}
 use Rattle.agent_task.proofs.DoneLaws.{given_back}
 use Rattle.agent_task.proofs.agent.Agent.give_up.Goals as goal
 

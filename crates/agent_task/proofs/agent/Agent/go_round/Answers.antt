@@ -2,7 +2,7 @@ use Rattle.std.proofs.Common.{◌≡◌, ◌∙◌, ap, refl, sym, subst}
 use Rattle.std.specs.Prelude.{not, None}
 use Rattle.agent_task.specs.declared.agent.Agent.{Agent}
 use Rattle.vchan_rule.specs.Ends.{IsSameEnd}
-use Rattle.data_slots.specs.Slots.{SlotsState, late_count}
+use Rattle.agent_slots.specs.Slots.{SlotsState, late_count}
 use Rattle.agent_task.specs.Standing.{KeepsOpen}
 use Rattle.agent_task.specs.Moving.{Listens, SaysNoMore, TurnsControl, KeepsControl, asked_at_most}
 use Rattle.agent_task.proofs.MovingLaws.{over_not_up, turns_control, control_same, control_heard, control_said, control_then}

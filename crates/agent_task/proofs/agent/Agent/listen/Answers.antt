@@ -3,7 +3,7 @@ use Rattle.vchan_rule.specs.Seated.{SeatedEnd, view, IsOpen}
 use Rattle.channel_session.specs.Turning.{KeepsBytes}
 use Rattle.vchan_rule.specs.Ends.{IsSameEnd}
 use Rattle.vchan_rule.proofs.EndLaws.{same_end_then}
-use Rattle.call_queue.specs.Queue.{QueueState}
+use Rattle.agent_queue.specs.Queue.{QueueState}
 use Rattle.agent_control.specs.declared.control.AgentControl.{AgentControl}
 use Rattle.agent_task.specs.Moving.{Listens}
 use Rattle.agent_task.proofs.MovingLaws.{listens_by, listens_keep}

@@ -1,6 +1,6 @@
 use Rattle.std.proofs.Common.{◌≡◌, ◌∙◌, ℕ, ap, subst}
 use Rattle.std.specs.Prelude.{◌-◌, min}
-use Rattle.data_slots.specs.Slots.{late_count}
+use Rattle.agent_slots.specs.Slots.{late_count}
 use Rattle.agent_task.specs.Moving.{SaysNoMore, asked_at_most, HasStopped}
 use Rattle.agent_task.proofs.MovingLaws.{says_on}
 use Rattle.agent_task.proofs.RoundLaws.{says_up}

@@ -1,7 +1,7 @@
 use Rattle.std.proofs.Common.{◌++◌, sym, ◌∙◌, ap, subst}
 use Rattle.std.specs.Prelude.{List, not}
-use Rattle.data_slots.specs.Done.{TellsMore}
-use Rattle.data_slots.specs.Sessions.{Session, AllTakeTurns}
+use Rattle.agent_slots.specs.Done.{TellsMore}
+use Rattle.agent_slots.specs.Sessions.{Session, AllTakeTurns}
 use Rattle.agent_task.specs.declared.agent.Agent.{Agent}
 use Rattle.agent_task.specs.Ending.{IsRunning}
 use Rattle.agent_task.proofs.SessionLaws.{slots_running, noted_running, told_first}

@@ -1,0 +1,89 @@
+-- What holds of an end under its page's name.
+use Rattle.std.proofs.Common.{◌≡◌, ℕ, List, ap, sym, subst, ◌∙◌, inl, inr, Vec, Global, Result, Ok, Err}
+use Rattle.std.specs.Prelude.{OnOk, true, false}
+use Rattle.std.specs.declared.snapshot.Snapshot.{Snapshot}
+use Rattle.end_view.specs.EndView.{EndView}
+use Rattle.task_duties.specs.declared.place.PagePlace.{PagePlace}
+use Rattle.task_duties.specs.Agent.Sessions.{IsClosed, IsGone, ServingEnded, ServingOwes}
+use Rattle.qrexec_data.specs.declared.outcome.Outcome.{Outcome}
+use Rattle.qrexec_data.specs.declared.outcome.Outcome.TheVariants.{Done, Fault, Closed, Gone}
+use Rattle.page_offer.specs.Views.{named}
+use Rattle.atomic_table.specs.Seated.{TableId}
+use Rattle.service_gate.specs.Triple.{Triple}
+use Rattle.service_gate.specs.Owing.{builtin_owes}
+use Rattle.service_gate.specs.declared.builtin.Builtin.{Builtin}
+use Rattle.channel_session.specs.Calling.{CallerAt, IsCalling, IsSameCall, IsRetired}
+use Rattle.channel_session.specs.Answering.{ServingAt, IsAnswering, IsAtWork}
+use Rattle.agent_slots.specs.declared.stage.Stage.TheVariants.{Unused, Calls, Serves}
+use Rattle.agent_slots.specs.declared.stage.Stage.{Stage}
+use Rattle.agent_slots.specs.Stages.{Use, Frame, framed, IsStage, WasRetired}
+use Rattle.task_duties.specs.declared.ends.DoneEnd.{DoneEnd}
+use Rattle.task_duties.specs.declared.ends.UnusedEnd.{UnusedEnd}
+use Rattle.task_duties.specs.GivenEnds.{done_view, fresh_view}
+use Rattle.agent_slots.specs.declared.side.PageSide.{PageSide}
+use Rattle.agent_slots.specs.declared.side.PageSide.TheVariants as side
+use Rattle.agent_slots.specs.Slots.{held_of}
+use Rattle.agent_slots.specs.Sides.{seen_under, is_late_unused, is_late_side}
+
+-- an end that is the same one as before is held as the same one
+pub same_held : (s : PageSide) (place : PagePlace) (before now : EndView) → now.page ≡ before.page → now.role ≡ before.role → held_of place (seen_under s now) ≡ held_of place (seen_under s before)
+same_held side.Laid place before now page role = λ i. record { place = place; page = page i; role = role i }
+same_held (side.Server s) place before now page role = λ i. record { place = place; page = s.name; role = role i }
+same_held (side.Client c) place before now page role = λ i. record { place = place; page = c.name; role = role i }
+
+-- an unused end that is put to use stays the same end
+pub put_to_use : (place : PagePlace) (stage : Stage) (end : UnusedEnd) (s : PageSide) (now : EndView) (used : Use) → stage ≡ Unused end → seen_under s now ≡ fresh_view end → is_late_side s ≡ is_late_unused end
+    → ◌≡◌ {A = Frame} (record { held = held_of place (seen_under s now); used = used; late = is_late_side s }) (record (framed place stage) { used = used })
+put_to_use place stage end s now used is seen late =
+    let same : ◌≡◌ {A = Frame} (record { held = held_of place (seen_under s now); used = used; late = is_late_side s }) (record { held = held_of place (fresh_view end); used = used; late = is_late_unused end }) =
+    λ i. record { held = held_of place (seen i); used = used; late = late i } in
+    same ∙ ap (λ x. record (framed place x) { used = used }) (sym is)
+
+-- what is reported of an end depends on nothing that the name changes
+closed_named : (e : EndView) (name : TableId) → IsClosed e → IsClosed (named name e)
+closed_named e name h = record { saw = h.saw; ended = h.ended; drained = h.drained }
+
+gone_named : (e : EndView) (name : TableId) → IsGone e → IsGone (named name e)
+gone_named e name h = record { saw = h.saw; ended = h.ended }
+
+serving_ended : (outcome : Outcome) (version : ℕ) (owed : List ℕ → Triple) (e : EndView) (name : TableId) → ServingEnded version owed outcome e → ServingEnded version owed outcome (named name e)
+serving_ended (Done code) version owed e name h = h
+serving_ended (Fault fault) version owed e name h = tt
+serving_ended Closed version owed e name (inl h) = inl (closed_named e name h)
+serving_ended Closed version owed e name (inr h) = inr h
+serving_ended Gone version owed e name h = gone_named e name h
+
+serving_owes_seen : (s : PageSide) (version : ℕ) (name : List ℕ) (outcome : Outcome) (got : List ℕ) (e : EndView) → ServingOwes version name outcome got e → ServingOwes version name outcome got (seen_under s e)
+serving_owes_seen side.Laid version name outcome got e h = h
+serving_owes_seen (side.Server s) version name outcome got e h = record { owed = h.owed; is_service = h.is_service; got_is = h.got_is; sent = h.sent; fits = h.fits; ended = serving_ended outcome version h.owed e s.name h.ended }
+serving_owes_seen (side.Client c) version name outcome got e h = record { owed = h.owed; is_service = h.is_service; got_is = h.got_is; sent = h.sent; fits = h.fits; ended = serving_ended outcome version h.owed e c.name h.ended }
+
+-- what a side that serves has when its call is over, by the view of its end then
+pub serving_over : (version : ℕ) (name : List ℕ) (s : PageSide) (end : DoneEnd) (outcome : Outcome) (got : List ℕ) (e : EndView) → done_view end ≡ seen_under s e → ServingOwes version name outcome got e
+    → ServingOwes version name outcome got (done_view end)
+serving_over version name s end outcome got e seen h = subst (λ v. ServingOwes version name outcome got v) (sym seen) (serving_owes_seen s version name outcome got e h)
+
+-- an end that was retired is so under its page's name
+pub was_retired : (s : PageSide) (before last : EndView) (end : DoneEnd) → IsRetired before last → last.turned ≡ false → done_view end ≡ seen_under s last → WasRetired (done_view end)
+was_retired s before last end retired honest seen = subst WasRetired (sym seen) (under s)
+  where
+    gone : last.retired ≡ true
+    gone = ap (λ (v : EndView). v.retired) retired
+
+    under : (s : PageSide) → WasRetired (seen_under s last)
+    under side.Laid = (gone, honest)
+    under (side.Server k) = (gone, honest)
+    under (side.Client k) = (gone, honest)
+
+-- ---- a session goes on
+
+pub calls_on : (version number : ℕ) (input : Snapshot (Vec ℕ Global)) (s : PageSide) (old new : CallerAt) {T E : Type 0} (r : Result T E) → OnOk r (IsSameCall old new) → OnOk r (IsCalling new.caller new.end)
+    → IsStage version (Calls number input s old) → OnOk r (IsStage version (Calls number input s new))
+calls_on version number input s old new (Ok x) same calling h = (calling, same.own ∙ h.1, same.input ∙ h.2)
+calls_on version number input s old new (Err e) same calling h = tt
+
+pub serves_on : (version number : ℕ) (service : Snapshot Builtin) (s : PageSide) (old new : ServingAt) {T E : Type 0} (r : Result T E) → OnOk r (new.serving.answering.own ≡ old.serving.answering.own)
+    → OnOk r (IsAtWork new.serving new.end) → ((owed : List ℕ → Triple) → IsAnswering owed old.serving old.end → OnOk r (IsAnswering owed new.serving new.end))
+    → IsStage version (Serves number service s old) → OnOk r (IsStage version (Serves number service s new))
+serves_on version number service s old new (Ok x) own work answering h = (work, own ∙ h.1, answering (builtin_owes service.value) h.2)
+serves_on version number service s old new (Err e) own work answering h = tt

@@ -1,0 +1,40 @@
+use Rattle.std.proofs.Common.{sym, subst}
+use Rattle.vchan_rule.specs.Seated.{view, last_view}
+use Rattle.task_duties.specs.GivenEnds.{done_view}
+use Rattle.service_gate.specs.Owing.{builtin_owes}
+use Rattle.task_duties.specs.Agent.Sessions.{ServingOwes}
+use Rattle.agent_slots.specs.declared.stage.Stage.{Stage}
+use Rattle.agent_slots.specs.declared.stage.Stage.TheVariants.{Serves}
+use Rattle.agent_slots.specs.Stages.{IsStage}
+use Rattle.agent_slots.specs.Sessions.{EndedWith, ComesToItsEnd, session_of}
+use Rattle.agent_slots.proofs.SideLaws.{serving_over, was_retired}
+use Rattle.agent_slots.proofs.SessionLaws.{call_ends, serving_ends}
+use Rattle.agent_slots.proofs.ending.ended.Goals as goal
+
+pub returns-in-Serves-clause-stage : goal.returns-in-Serves-clause-stage
+returns-in-Serves-clause-stage c = λ version stage name is_service.
+    let P : Stage → Type 0 = IsStage version in
+    let ended = c.finish-got.result in
+    let was : IsStage version (Serves c.in-Serves.number c.in-Serves.service c.in-Serves.side c.in-Serves.session) = subst P c.in-Serves.is stage in
+    let owed = c.finish-got.ensures.owed name (builtin_owes c.in-Serves.service.value) is_service was.2 in
+    serving_over version name c.in-Serves.side c.finish-end-in-Serves.result c.args.outcome ended.got (last_view ended.retired) c.finish-end-in-Serves.ensures.view
+    (subst (λ v. ServingOwes v name c.args.outcome ended.got (last_view ended.retired)) was.1 owed)
+
+pub returns-in-Calls-clause-ends : goal.returns-in-Calls-clause-ends
+returns-in-Calls-clause-ends c =
+    let end = c.finish-end.result in
+    subst (λ (s : Stage). ComesToItsEnd (session_of s) (EndedWith (done_view end))) (sym c.in-Calls.is)
+    (call_ends c.in-Calls.session c.in-Calls.side (last_view c.finish-done.result.retired) end c.finish-done.ensures.end c.finish-end.ensures.view)
+
+pub returns-in-Serves-clause-ends : goal.returns-in-Serves-clause-ends
+returns-in-Serves-clause-ends c =
+    let end = c.finish-end-in-Serves.result in
+    subst (λ (s : Stage). ComesToItsEnd (session_of s) (EndedWith (done_view end))) (sym c.in-Serves.is)
+    (serving_ends c.in-Serves.session c.in-Serves.side (last_view c.finish-got.result.retired) end c.finish-got.ensures.end c.finish-end-in-Serves.ensures.view)
+
+pub returns-in-Calls-clause-retire : goal.returns-in-Calls-clause-retire
+returns-in-Calls-clause-retire c = was_retired c.in-Calls.side (view c.in-Calls.session.end) (last_view c.finish-done.result.retired) c.finish-end.result c.finish-done.ensures.end c.finish-done.ensures.honest c.finish-end.ensures.view
+
+pub returns-in-Serves-clause-retire : goal.returns-in-Serves-clause-retire
+returns-in-Serves-clause-retire c =
+    was_retired c.in-Serves.side (view c.in-Serves.session.end) (last_view c.finish-got.result.retired) c.finish-end-in-Serves.result c.finish-got.ensures.end c.finish-got.ensures.honest c.finish-end-in-Serves.ensures.view

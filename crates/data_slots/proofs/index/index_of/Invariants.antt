@@ -1,7 +1,0 @@
-use Rattle.task_duties.specs.TaskOwes.{places_in}
-use Rattle.task_duties.specs.GivenEnds.{all_given}
-use Rattle.data_slots.proofs.IndexLaws.{IsIndexUpTo}
-use Rattle.data_slots.proofs.index.index_of.Given as goal
-
-abbrev pub invariant-loop-at : goal.invariant-loop-at
-invariant-loop-at l = IsIndexUpTo l.at (places_in (all_given l.ends)) l.index
