@@ -39,13 +39,11 @@ use Rattle.vchan_persist.specs.Settling.{ComesTo}
 -- ---- two tasks, and what they hand back
 
 pub handed_back : (page : TableId) (client : Client) (service : Builtin) (tasks : List EpochTask) (dones : List SideDone) → AreSides page client service tasks → AllZip epoch_owes tasks dones → AreHandedBack page client service dones
-handed_back page client service [] dones sides paid = absurd sides
-handed_back page client service (one ∷ []) dones sides paid = absurd sides
 handed_back page client service (one ∷ other ∷ []) [] sides paid = absurd paid
 handed_back page client service (one ∷ other ∷ []) (first ∷ []) sides paid = absurd paid.1
 handed_back page client service (one ∷ other ∷ []) (first ∷ second ∷ []) sides paid = (sides.0 first paid.0, sides.1 second paid.1.0)
 handed_back page client service (one ∷ other ∷ []) (first ∷ second ∷ more ∷ dones) sides paid = absurd paid.1.1
-handed_back page client service (one ∷ other ∷ more ∷ tasks) dones sides paid = absurd sides
+handed_back page client service _ dones sides paid = absurd sides
 
 -- ---- a call
 

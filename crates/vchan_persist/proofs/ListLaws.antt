@@ -3,8 +3,8 @@ use Rattle.std.proofs.Common.{◌≡◌, ℕ, ◌+◌, ◌-◌, ◌≤◌, lengt
 use Rattle.std.proofs.lemmas.Bool.Decides.{nat_tests}
 use Rattle.std.proofs.lemmas.List.{length_push}
 use Rattle.std.specs.Prelude.{◌||◌, nat_lt, IsOk, MatchBool, if◌then◌else◌}
-use Rattle.std.specs.List.{AllByRecursion as Each}
 use Rattle.list_laws.specs.Results.{◌>>=◌}
+use Rattle.list_laws.proofs.Each.{each_push}
 use Rattle.script_words.specs.KeptLines.{is_passed_over}
 use Rattle.script_words.specs.Words.{words_of}
 use Rattle.vchan_persist.specs.declared.client.Client.{Client}
@@ -12,7 +12,6 @@ use Rattle.vchan_persist.specs.declared.error.ClientsKind.{ClientsKind}
 use Rattle.vchan_persist.specs.declared.error.ClientsKind.TheVariants.{TooMany}
 use Rattle.vchan_persist.specs.declared.error.ClientsError.{ClientsError}
 use Rattle.vchan_persist.specs.declared.error.ClientsError.TheVariants as list
-use Rattle.vchan_persist.specs.declared.error.LineError.TheVariants as line
 use Rattle.vchan_persist.specs.Clients.{AreServable, IsServable, BeginsWell, added, at_number, client_of, clients_from, has_too_many, some_client, stdin_len, stdin_total, too_many, with_line}
 use Rattle.vchan_persist.specs.Reading.{IsLineRefusal, IsRefusal}
 
@@ -22,10 +21,6 @@ pub total_push : (clients : List Client) (client : Client) → stdin_total (clie
 unfolding stdin_total
 total_push [] client = omega arith
 total_push (c ∷ cs) client = let more = total_push cs client in omega (arith, more)
-
-pub each_push : (clients : List Client) (client : Client) → Each IsServable clients → IsServable client → Each IsServable (clients ++ client ∷ [])
-each_push [] client each servable = (servable, tt)
-each_push (c ∷ cs) client each servable = (each.0, each_push cs client each.1 servable)
 
 -- no client at all
 pub no_clients : (clients : List Client) → clients ≡ [] → AreServable clients × (0 ≡ stdin_total clients)
@@ -45,7 +40,7 @@ pub list_more : (line : ℕ) (clients now : List Client) (client : Client) (byte
 list_more line clients now client bytes len are total servable room is long =
     let most = limits line (length (clients ++ client ∷ [])) (stdin_total (clients ++ client ∷ [])) room in
     let sum : bytes + len ≡ stdin_total (clients ++ client ∷ []) = omega (arith, total_push clients client, total, long) in
-    subst (λ (cs : List Client). AreServable cs × (bytes + len ≡ stdin_total cs) × (bytes + len ≤ 8388608)) (sym is) ((most.1, each_push clients client are.1 servable), sum, omega (arith, most.2, sum))
+    subst (λ (cs : List Client). AreServable cs × (bytes + len ≡ stdin_total cs) × (bytes + len ≤ 8388608)) (sym is) ((most.1, each_push IsServable clients client are.1 servable), sum, omega (arith, most.2, sum))
 
 -- whether there is room for one client more
 room_by_numbers : (count bytes len : ℕ) → count ≤ 4096 → bytes ≤ 8388608 → nat_lt (8388608 - bytes) len ≡ (nat_lt 4096 count || nat_lt 8388608 (bytes + len))
