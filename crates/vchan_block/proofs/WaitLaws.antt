@@ -11,7 +11,7 @@ use Rattle.vchan_protocol.specs.declared.call.Answer.TheVariants.{Wrote, Full, S
 use Rattle.vchan_protocol.specs.declared.call.Bit.{Bit}
 use Rattle.vchan_protocol.specs.declared.call.Bit.TheVariants.{Written, Consumed}
 use Rattle.vchan_protocol.specs.declared.call.Call.{Call}
-use Rattle.vchan_protocol.specs.declared.call.Call.TheVariants.{Write, Send, Read, Recv, Drain, DataReady, BufferSpace, Connect, Close, TakeEvent, PeerGone as AskGone, Retire}
+use Rattle.vchan_protocol.specs.declared.call.Call.TheVariants.{Write, Send, Read, Recv}
 use Rattle.vchan_protocol.specs.declared.side.Side.{Side}
 use Rattle.vchan_protocol.specs.declared.side.Notes.{Notes}
 use Rattle.vchan_protocol.specs.Table.Plan.{Plan, does, answers, Leads}
@@ -222,14 +222,7 @@ round_notes was call payload events answer trace unfinished =
     noted_by (Send n) answer trace unfinished = Leaves_Leads (Fits (standing_of was) (Send n)) was.role was.notes _ events answer (send_leaves (standing_of was) n was.notes) trace unfinished
     noted_by (Read n) answer trace unfinished = Leaves_Leads (Fits (standing_of was) (Read n)) was.role was.notes _ events answer (read_leaves (standing_of was) n was.notes) trace unfinished
     noted_by (Recv n) answer trace unfinished = Leaves_Leads (Fits (standing_of was) (Recv n)) was.role was.notes _ events answer (recv_leaves (standing_of was) n was.notes) trace unfinished
-    noted_by (Drain n) answer trace unfinished = absurd unfinished
-    noted_by DataReady answer trace unfinished = absurd unfinished
-    noted_by BufferSpace answer trace unfinished = absurd unfinished
-    noted_by Connect answer trace unfinished = absurd unfinished
-    noted_by Close answer trace unfinished = absurd unfinished
-    noted_by TakeEvent answer trace unfinished = absurd unfinished
-    noted_by AskGone answer trace unfinished = absurd unfinished
-    noted_by Retire answer trace unfinished = absurd unfinished
+    noted_by _ answer trace unfinished = absurd unfinished
 
 pub misses_nothing : (core : Core) (was : Side) (call : Call) (payload : List ℕ) (events : List PastEvent) (answer : Answer) → NoLostSignal core →
     Trace (standing_of was) call events answer → side_of core was.role ≡ side_called was call payload events answer → IsUnfinished call answer →
