@@ -1,5 +1,5 @@
 -- The generated scenario is a scenario.
-use Rattle.std.proofs.Common.{◌≡◌, ℕ, ◌+◌, ◌-◌, ◌*◌, ◌%◌, ◌^◌, ◌<◌, ◌≤◌, suc, zero, List, [], ◌∷◌, ◌++◌, length, drop, map, refl, ap, sym, ◌∙◌, append_assoc, append-nil, arith, inr, true, false}
+use Rattle.std.proofs.Common.{◌≡◌, ℕ, ◌+◌, ◌-◌, ◌*◌, ◌%◌, ◌^◌, ◌<◌, ◌≤◌, suc, zero, List, [], ◌∷◌, ◌++◌, length, drop, take, map, refl, ap, sym, ◌∙◌, append_assoc, append-nil, arith, inr, true, false}
 use Rattle.std.specs.Prelude.{bytes_eq}
 use Rattle.std.specs.List.{All}
 use Rattle.std.proofs.lemmas.Bool.Decides.{nat_tests}
@@ -25,6 +25,15 @@ names_fit (suc zero) h = refl
 names_fit (suc (suc zero)) h = refl
 names_fit (suc (suc (suc zero))) h = refl
 names_fit (suc (suc (suc (suc k)))) h = absurd (omega (arith, h))
+
+-- the domains up to a place, and the one at it
+pub domain_more : (k : ℕ) (before after : List Domain) (domain : Domain) → k < 4 → before ≡ map generated_domain (take k generated_names) → domain ≡ generated_domain (text_at generated_names k)
+    → after ≡ before ++ domain ∷ [] → after ≡ map generated_domain (take (k + 1) generated_names)
+domain_more zero before after domain h so_far here pushed = rw (pushed, so_far, here) refl
+domain_more (suc zero) before after domain h so_far here pushed = rw (pushed, so_far, here) refl
+domain_more (suc (suc zero)) before after domain h so_far here pushed = rw (pushed, so_far, here) refl
+domain_more (suc (suc (suc zero))) before after domain h so_far here pushed = rw (pushed, so_far, here) refl
+domain_more (suc (suc (suc (suc k)))) before after domain h so_far here pushed = absurd (omega (arith, h))
 
 pub services_fit : (k : ℕ) → k < 6 → is_service (text_at generated_services k) ≡ true
 services_fit zero h = refl

@@ -6,5 +6,6 @@ pub mod NameLaws
 pub mod TotalLaws
 pub mod NumberLaws
 pub mod ReadLaws
+pub mod ActLaws
 pub mod FileLaws
 pub mod Rows

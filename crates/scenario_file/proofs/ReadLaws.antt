@@ -1,9 +1,9 @@
 -- Lists of a file, item by item.
-use Rattle.std.proofs.Common.{◌≡◌, ◌≢◌, ◌≤◌, ◌<◌, ℕ, ◌+◌, List, [], ◌∷◌, ◌++◌, length, drop, get_or, map, string_bytes, refl, ap, sym, ◌∙◌, arith, Option, Some, None, Result, Ok, Err, Bool, true, false}
-use Rattle.std.specs.Prelude.{bytes_eq}
+use Rattle.std.proofs.Common.{◌≡◌, ◌≢◌, ◌≤◌, ◌<◌, ℕ, ◌+◌, List, [], ◌∷◌, ◌++◌, length, drop, take, get_or, map, append-nil, string_bytes, refl, ap, sym, ◌∙◌, arith, Option, Some, None, Result, Ok, Err, Bool, true, false}
+use Rattle.std.specs.Prelude.{bytes_eq, filter, is_some, option_map}
 use Rattle.std.specs.List.{All}
 use Rattle.std.specs.Map.{keys_of as map_keys}
-use Rattle.std.proofs.lemmas.List.Elements.{All-nil, All-push}
+use Rattle.std.proofs.lemmas.List.Elements.{All-nil, All-push, filter-append}
 use Rattle.toml.specs.Data.{Data}
 use Rattle.toml.specs.View.{view, items_view, members_view}
 use Rattle.toml.specs.declared.value.Value.{Value}
@@ -11,7 +11,7 @@ use Rattle.toml.proofs.Views.{Entry, items_view-drop}
 use Rattle.scenario_file.specs.declared.scenario.Domain.{Domain}
 use Rattle.scenario_file.specs.declared.scenario.CallPlan.{CallPlan}
 use Rattle.scenario_file.specs.Scenario.{AreApart, place_named}
-use Rattle.std.proofs.lemmas.List.{length_push}
+use Rattle.std.proofs.lemmas.List.{length_push, map-append, take_more}
 use Rattle.scenario_file.specs.declared.place.Section.TheVariants as section
 use Rattle.scenario_file.specs.Checks.{Fault, all_from, key_list, path_of}
 use Rattle.scenario_file.proofs.NumberLaws.{IsNumbered, IsNumbered_push}
@@ -141,3 +141,23 @@ pushed_apart before seen after x is pushed apart new = rw pushed (apart_push bef
 
 pub pushed_numbered : (before seen after : List CallPlan) (x : CallPlan) → seen ≡ before → after ≡ before ++ x ∷ [] → IsNumbered 1 before → x.number ≡ length seen + 1 → IsNumbered 1 after
 pushed_numbered before seen after x is pushed numbered new = rw pushed (IsNumbered_push 1 before x numbered (let same = ap length is in omega (arith, new, same)))
+
+-- whether a table has a key, by the value that was looked up
+pub key_asked : {A B : Type 0} (see : A → B) (o : Option A) (due : Option B) (b : Bool) → b ≡ is_some o → option_map see o ≡ due → b ≡ is_some due
+key_asked see (Some x) due b is seen = is ∙ ap is_some seen
+key_asked see None due b is seen = is ∙ ap is_some seen
+
+-- the items up to a place that a test lets pass: with the one at it, or without
+pub kept_more : {X : Type 0} (p : X → Bool) (xs : List X) (i : ℕ) (x : X) → i < length xs → x ≡ get_or xs i x → p x ≡ true → filter p (take (i + 1) xs) ≡ filter p (take i xs) ++ x ∷ []
+kept_more p xs i x within same passes = rw (take_more xs i x within, filter-append p (take i xs) (get_or xs i x ∷ []), ← same, passes) refl
+
+pub passed_over : {X : Type 0} (p : X → Bool) (xs : List X) (i : ℕ) (x : X) → i < length xs → x ≡ get_or xs i x → p x ≡ false → filter p (take (i + 1) xs) ≡ filter p (take i xs)
+passed_over p xs i x within same stays = rw (take_more xs i x within, filter-append p (take i xs) (get_or xs i x ∷ []), ← same, stays) (append-nil (filter p (take i xs)))
+
+pub made_more : {X Y : Type 0} (f : X → Y) (p : X → Bool) (xs : List X) (i : ℕ) (x : X) (before after : List Y) (y : Y) → i < length xs → x ≡ get_or xs i x → p x ≡ true
+    → before ≡ map f (filter p (take i xs)) → y ≡ f x → after ≡ before ++ y ∷ [] → after ≡ map f (filter p (take (i + 1) xs))
+made_more f p xs i x before after y within same passes so_far made pushed = rw (pushed, so_far, made, kept_more p xs i x within same passes, map-append f (filter p (take i xs)) (x ∷ [])) refl
+
+pub made_same : {X Y : Type 0} (f : X → Y) (p : X → Bool) (xs : List X) (i : ℕ) (x : X) (before : List Y) → i < length xs → x ≡ get_or xs i x → p x ≡ false
+    → before ≡ map f (filter p (take i xs)) → before ≡ map f (filter p (take (i + 1) xs))
+made_same f p xs i x before within same stays so_far = so_far ∙ ap (map f) (sym (passed_over p xs i x within same stays))

@@ -121,11 +121,10 @@ fn read_domain<'t>(
     let section = Section::Domain(number);
     check_keys(table, section, member(table, "hostile").is_some())?;
     let name = new_name(before, number, needed_text(table, section, "name")?)?;
-    let name = text_of(alloc, name)?;
     let hostile = read_hostile(alloc, number, table)?;
     let (ports, version) = read_numbers(number, hostile.is_some(), table)?;
     Ok(Domain {
-        name,
+        name: text_of(alloc, name)?,
         hostile,
         ports,
         version,

@@ -66,12 +66,11 @@ pub(crate) fn default_orders() -> Orders
 fn generated_domains(alloc: Global) -> Result<Vec<Domain>, Memory>
     ensures { IfOk result (λ domains. domains.items ≡ map generated_domain generated_names) }
 {
-    let domains = vec![in alloc;
-        generated_domain(alloc, NAMES[0])?,
-        generated_domain(alloc, NAMES[1])?,
-        generated_domain(alloc, NAMES[2])?,
-        generated_domain(alloc, NAMES[3])?,
-    ]?;
+    let mut domains = Vec::with_capacity(alloc, 4)?;
+    for place in 0..4 {
+        let domain = generated_domain(alloc, name_at(place))?;
+        domains.push(domain)?;
+    }
     Ok(domains)
 }
 
