@@ -55,8 +55,9 @@ impl RunStarts {
         let mut seats = Vec::with_capacity(alloc, places.len())?;
         for place in places {
             let (page, seats_of_page) = self.page(alloc, scenario, *place)?;
-            pages.push(page)?;
-            seats.push(seats_of_page)?;
+            // Both lists have room for all.
+            pages.push_reserved(page);
+            seats.push_reserved(seats_of_page);
         }
         Ok((pages, seats))
     }
