@@ -1,5 +1,5 @@
 -- A side that serves over its end, through a turn and to its end.
-use Rattle.std.proofs.Common.{◌≡◌, ℕ, List, drop, Option, Some, None, true, refl, inl, inr, sym, ap, ◌∙◌, subst}
+use Rattle.std.proofs.Common.{◌≡◌, ℕ, List, [], ◌++◌, drop, take, Option, Some, None, true, refl, inl, inr, sym, ap, ◌∙◌, subst}
 use Rattle.std.specs.Prelude.{Bool, false, ℤ, is_none, if◌then◌else◌}
 use Rattle.vchan_protocol.specs.declared.call.EndState.TheVariants.{Shut}
 use Rattle.service_gate.specs.Triple.{Triple}
@@ -14,7 +14,7 @@ use Rattle.qrexec_data.specs.ServingSide.{ServingState, ServingStandsFor, Agrees
 use Rattle.qrexec_data.specs.Seeing.{Seen, serving_sees, seen_by, serving_use}
 use Rattle.qrexec_data.specs.Sending.{ServingMaySend}
 use Rattle.qrexec_data.specs.Fitting.{FitsServing}
-use Rattle.qrexec_data.proofs.PackLaws.{same_packed}
+use Rattle.qrexec_data.proofs.PackLaws.{Same, same_packed}
 use Rattle.qrexec_data.proofs.MaySendLaws.{serving_may_send, serving_sent_all}
 use Rattle.vchan_rule.specs.Seated.{SeatedEnd, view}
 use Rattle.end_view.specs.EndView.{EndView}
@@ -49,6 +49,38 @@ chunk_over a = by_over (is_over a)
     by_over : (b : Bool) → (if b then done_if a.code a else a).chunk ≡ a.chunk
     by_over true = by_code a.code
     by_over false = refl
+
+-- a side whose bytes were borrowed is the same one, and at work and answering as before
+pub lent_same : (old lent : ServingState Builtin) (piece : List ℕ) → old.answering.outcome ≡ None → LendsAnswers builtin_owes old lent piece → Same old.answering lent.answering
+lent_same old lent piece none lends =
+    let next = packed_on old.answering.version old.answering in
+    subst (λ a. Same old.answering a) (sym (ap (λ s. s.answering) lends.new_is ∙ ap (λ o. if is_none o then next else old.answering) none)) (same_packed old.answering.version old.answering)
+
+pub lent_works : (old lent : ServingState Builtin) (end end' : SeatedEnd) (piece : List ℕ) → old.answering.outcome ≡ None → LendsAnswers builtin_owes old lent piece → (view end').idle ≡ true → (view end').state ≡ (view end).state
+    → (view end').ended ≡ (view end).ended → IsAtWork old end → IsAtWork lent end'
+lent_works old lent end end' piece none lends idle state ended work =
+    let same = lent_same old lent piece none lends in
+    let going : EndsBy None (view end) = subst (λ o. EndsBy o (view end)) none work.ends in
+    let now : EndsBy None (view end') = (state ∙ going.0, ended ∙ going.1) in
+    record { chunk_is = same.chunk ∙ work.chunk_is; idle = idle; ends = subst (λ o. EndsBy o (view end')) (sym (same.outcome ∙ none)) now }
+
+pub lent_answers : (owed : List ℕ → Triple) (old lent : ServingState Builtin) (end end' : SeatedEnd) (piece : List ℕ) → LendsAnswers builtin_owes old lent piece → (view end').got ≡ (view end).got → (view end').sent ≡ (view end).sent
+    → IsAnswering owed old end → IsAnswering owed lent end'
+lent_answers owed old lent end end' piece lends got sent h = record {
+  got = ap (λ s. s.inbox.got) lends.new_is ∙ h.got ∙ sym got;
+  stands = subst (λ l. ServingStandsFor builtin_owes owed lent l) (sym sent) (lends.stands owed (view end).sent h.stands);
+}
+
+-- and so is one whose bytes went
+pub went_answers : (owed : List ℕ → Triple) (old lent new : ServingState Builtin) (end end' : SeatedEnd) (piece : List ℕ) (count : ℕ) → old.answering.outcome ≡ None → LendsAnswers builtin_owes old lent piece
+    → new ≡ record lent { answering = after_gone count lent.answering } → ((sent : List ℕ) → ServingStandsFor builtin_owes owed lent sent → ServingStandsFor builtin_owes owed new (sent ++ take count lent.answering.waiting))
+    → (view end').got ≡ (view end).got → (view end').sent ≡ (view end).sent ++ take count piece → IsAnswering owed old end → IsAnswering owed new end'
+went_answers owed old lent new end end' piece count none lends new_is stands got sent h =
+    let waits : piece ≡ lent.answering.waiting = lends.piece_is ∙ ap (λ o. if is_none o then lent.answering.waiting else []) none in
+    record {
+      got = ap (λ s. s.inbox.got) new_is ∙ ap (λ s. s.inbox.got) lends.new_is ∙ h.got ∙ sym got;
+      stands = subst (λ l. ServingStandsFor builtin_owes owed new l) (sym (sent ∙ ap (λ p. (view end).sent ++ take count p) waits)) (stands (view end).sent (lends.stands owed (view end).sent h.stands));
+    }
 
 -- a side whose bytes were borrowed, and that was told how many of them went, is at work with its end
 pub works_on : (old lent new : ServingState Builtin) (end end' : SeatedEnd) (piece : List ℕ) (count : ℕ) → IsAtWork old end → old.answering.outcome ≡ None → LendsAnswers builtin_owes old lent piece

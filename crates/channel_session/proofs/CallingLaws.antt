@@ -1,5 +1,6 @@
 -- A caller over its end, through a turn.
-use Rattle.std.proofs.Common.{◌≡◌, ℕ, List, ◌++◌, take, Option, Some, None, Bool, true, sym, ap, ◌∙◌, subst}
+use Rattle.std.proofs.Common.{◌≡◌, ℕ, List, [], ◌++◌, length, take, drop, Option, Some, None, Bool, true, false, refl, sym, ap, ◌∙◌, subst}
+use Rattle.std.specs.Prelude.{◌==◌, is_none, nat_lt, if◌then◌else◌}
 use Rattle.vchan_protocol.specs.declared.call.EndState.TheVariants.{Shut}
 use Rattle.vchan_rule.specs.Seated.{SeatedEnd, view, IsOpen}
 use Rattle.vchan_lifecycle.specs.Lifecycle.{drained_to}
@@ -8,7 +9,8 @@ use Rattle.end_view.specs.EndView.{EndView}
 use Rattle.qrexec_data.specs.declared.outcome.Outcome.{Outcome}
 use Rattle.qrexec_data.specs.declared.outcome.Outcome.TheVariants.{Done, Fault, Closed, Gone}
 use Rattle.qrexec_data.specs.Reading.{IsByBytes}
-use Rattle.qrexec_data.specs.CallerSide.{CallerState, CallerStandsFor}
+use Rattle.qrexec_data.specs.CallerSide.{CallerState, CallerStandsFor, LendsRequests}
+use Rattle.qrexec_data.specs.Requests.{RequestsState, packed_on}
 use Rattle.qrexec_data.specs.Replies.{AgreesWith}
 use Rattle.qrexec_data.specs.Seeing.{caller_sees, CallerSeen}
 use Rattle.qrexec_data.specs.Sending.{CallerMaySend}
@@ -40,6 +42,56 @@ took caller new end end' count buf saw h undecided view_is is_open got requests 
       is_open = is_open;
       ends = ends_by_bytes new.replies.outcome (view end') bytes (ap (λ v. v.ended) view_is ∙ none);
     }
+
+-- ---- bytes that went
+
+-- the same input, in messages as large
+pub record KeepsInput (a b : RequestsState) : Type 0 where
+  pub chunk : b.chunk ≡ a.chunk
+  pub input : b.input ≡ a.input
+
+keeps_if : (b : Bool) (r x y : RequestsState) → KeepsInput r x → KeepsInput r y → KeepsInput r (if b then x else y)
+keeps_if true r x y h k = h
+keeps_if false r x y h k = k
+
+keeps_packed : (version : Option ℕ) (r : RequestsState) → KeepsInput r (packed_on version r)
+keeps_packed None r = record { chunk = refl; input = refl }
+keeps_packed (Some version) r =
+    keeps_if (length r.waiting == 0) r _ _
+    (keeps_if r.closed r _ _ (record { chunk = refl; input = refl }) (keeps_if (nat_lt r.packed (length r.input)) r _ _ (record { chunk = refl; input = refl }) (record { chunk = refl; input = refl })))
+    (record { chunk = refl; input = refl })
+
+-- a caller whose bytes were borrowed has the same input, and stands for the same as before
+pub lent_keeps : (old lent : CallerState) (piece : List ℕ) → old.replies.outcome ≡ None → LendsRequests old lent piece → KeepsInput old.requests lent.requests
+lent_keeps old lent piece none lends =
+    let next = packed_on old.replies.version old.requests in
+    subst (λ r. KeepsInput old.requests r) (sym (ap (λ k. k.requests) lends.new_is ∙ ap (λ o. if is_none o then next else old.requests) none)) (keeps_packed old.replies.version old.requests)
+
+pub lent_calls : (old lent : CallerState) (end end' : SeatedEnd) (piece : List ℕ) → old.replies.outcome ≡ None → LendsRequests old lent piece → (view end').got ≡ (view end).got → (view end').sent ≡ (view end).sent → (view end').ended ≡ (view end).ended
+    → IsOpen end' → IsCalling old end → IsCalling lent end'
+lent_calls old lent end end' piece none lends got sent ended is_open h = record {
+  chunk_is = (lent_keeps old lent piece none lends).chunk ∙ h.chunk_is;
+  got = ap (λ k. k.inbox.got) lends.new_is ∙ h.got ∙ sym got;
+  stands = subst (λ l. CallerStandsFor lent l) (sym sent) (lends.stands (view end).sent h.stands);
+  is_open = is_open;
+  ends = subst (λ o. EndsBy o (view end')) (sym (ap (λ k. k.replies.outcome) lends.new_is ∙ none)) (ended ∙ subst (λ o. EndsBy o (view end)) none h.ends);
+}
+
+-- and so does one whose bytes went
+pub went_calls : (old lent new : CallerState) (end end' : SeatedEnd) (piece : List ℕ) (count : ℕ) → old.replies.outcome ≡ None → LendsRequests old lent piece
+    → new ≡ record lent { requests = record lent.requests { waiting = drop count lent.requests.waiting } } → ((sent : List ℕ) → CallerStandsFor lent sent → CallerStandsFor new (sent ++ take count lent.requests.waiting))
+    → (view end').got ≡ (view end).got → (view end').sent ≡ (view end).sent ++ take count piece → (view end').ended ≡ (view end).ended → IsOpen end' → IsCalling old end → IsCalling new end'
+went_calls old lent new end end' piece count none lends new_is stands got sent ended is_open h =
+    let waits : piece ≡ lent.requests.waiting = lends.piece_is ∙ ap (λ o. if is_none o then lent.requests.waiting else []) none in
+    record {
+      chunk_is = ap (λ k. k.requests.chunk) new_is ∙ (lent_keeps old lent piece none lends).chunk ∙ h.chunk_is;
+      got = ap (λ k. k.inbox.got) new_is ∙ ap (λ k. k.inbox.got) lends.new_is ∙ h.got ∙ sym got;
+      stands = subst (λ l. CallerStandsFor new l) (sym (sent ∙ ap (λ p. (view end).sent ++ take count p) waits)) (stands (view end).sent (lends.stands (view end).sent h.stands));
+      is_open = is_open;
+      ends = subst (λ o. EndsBy o (view end')) (sym (ap (λ k. k.replies.outcome) new_is ∙ ap (λ k. k.replies.outcome) lends.new_is ∙ none)) (ended ∙ subst (λ o. EndsBy o (view end)) none h.ends);
+    }
+
+-- ---- how a call came out
 
 -- an outcome that agrees with what is seen fits it
 pub fits : (outcome : Outcome) (seen : CallerSeen) → AgreesWith (Some outcome) seen.verdict → FitsCaller outcome seen

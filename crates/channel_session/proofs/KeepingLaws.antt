@@ -1,5 +1,5 @@
 -- No turn of a session takes bytes back.
-use Rattle.std.proofs.Common.{◌≡◌, ℕ, ◌≤◌, List, length, sym, ap, subst, arith}
+use Rattle.std.proofs.Common.{◌≡◌, ℕ, List, length, sym, ap, subst, arith}
 use Rattle.end_view.specs.EndView.{EndView}
 use Rattle.vchan_rule.specs.Seated.{view}
 use Rattle.channel_session.specs.declared.pause.Turned.{Turned}

@@ -1,6 +1,6 @@
 -- A turn of a session, by its parts: the look for a signal, the drain and the write.
-use Rattle.std.proofs.Common.{◌≡◌, ℕ, ◌<◌, ◌≤◌, List, length, None, refl, sym, ap, ◌∙◌, inl, inr, subst, arith}
-use Rattle.std.specs.Prelude.{◌↔◌, ◌⊎◌, Bool, true, false, not, ◌||◌, IsSome}
+use Rattle.std.proofs.Common.{◌≡◌, ℕ, ◌<◌, ◌≤◌, List, length, Option, Some, None, refl, sym, ap, ◌∙◌, inl, inr, subst, arith}
+use Rattle.std.specs.Prelude.{◌↔◌, ◌⊎◌, Bool, true, false, not, ◌||◌, IsSome, is_some, IfOk, Result, Ok}
 use Rattle.vchan_protocol.specs.declared.call.Call.TheVariants.{Write, Drain}
 use Rattle.vchan_protocol.specs.declared.call.Answer.TheVariants.{Full, PeerClosed, NotYet}
 use Rattle.vchan_protocol.specs.Table.Calls.{Trace}
@@ -50,6 +50,14 @@ finds_full before at now piece waiting prod cons same waits trail cause = subst 
 pub finds_shut : (at now : SeatedEnd) (piece : List ℕ) → Trace (standing_of at.side) (Write (most_asked piece)) now.side.trail PeerClosed
     → ((other : WriteAnswer) → (IsShut ≡ other) ↔ WriteCause (standing_of at.side) (most_asked piece) (loads_of (standing_of at.side) now.side.trail) (write_told other)) → FindsShut at now (most_asked piece)
 finds_shut at now piece trail cause = record { trail = trail; cause = (cause IsShut).0 refl }
+
+-- what a call's result tells, where it is this one
+pub told_ok : {B E : Type 0} (P : B → Type 0) (r : Result B E) (b : B) → r ≡ Ok b → IfOk r P → P b
+told_ok P r b is h = subst (λ x. IfOk x P) is h
+
+pub none_from : {A : Type 0} (o : Option A) → is_some o ≡ false → o ≡ None
+none_from None is = refl
+none_from (Some a) is = cc
 
 -- ---- the parts of a turn
 

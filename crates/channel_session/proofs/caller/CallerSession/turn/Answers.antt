@@ -1,7 +1,8 @@
 use Rattle.std.proofs.Common.{◌≡◌, subst, sym, ◌∙◌}
-use Rattle.vchan_rule.specs.Seated.{view}
+use Rattle.vchan_rule.specs.Seated.{view, IsOpen}
 use Rattle.vchan_rule.specs.Ends.{IsSameEnd}
-use Rattle.channel_session.specs.Calling.{CallerAt, CallerTurns, CallerWrites}
+use Rattle.channel_session.specs.Calling.{CallerAt, CallerTurns, CallerWrites, IsCalling}
+use Rattle.vchan_rule.proofs.EndLaws.{same_end_then}
 use Rattle.channel_session.specs.Turning.{Pace, KeepsShut}
 use Rattle.channel_session.proofs.TurningLaws.{caller_turns, keeps_shut}
 use Rattle.channel_session.proofs.caller.CallerSession.turn.Goals as goal
@@ -30,3 +31,17 @@ returns-clause-shut c =
     keeps_shut c.args.self.now.pace c.read_on.new.self.pace pace c.args.self.now.end c.is_due.new.self.end c.read_on.new.self.end inside.end (c.in_ok-came.ensures.kept.0 ∙ c.is_due.ensures.same.1)
     c.is_due.ensures.end c.in_ok-came.ensures.end
     (subst (λ (s : CallerAt). KeepsShut c.read_on.new.self.pace s.pace c.read_on.new.self.end s.end) (sym c.self-2.view_is) c.in_ok-went.ensures.shut)
+
+pub returns-clause-end : goal.returns-clause-end
+returns-clause-end c =
+    same_end_then c.args.self.now.end c.is_due.new.self.end c.self-2.inside.end c.is_due.ensures.end
+    (same_end_then c.is_due.new.self.end c.read_on.new.self.end c.self-2.inside.end c.in_ok-came.ensures.end (subst (λ (s : CallerAt). IsSameEnd c.read_on.new.self.end s.end) (sym c.self-2.view_is) c.in_ok-went.ensures.end))
+
+pub returns-clause-open : goal.returns-clause-open
+returns-clause-open c = subst (λ (s : CallerAt). IsOpen s.end) (sym c.self-2.view_is) c.in_ok-went.ensures.«open»
+
+pub returns-clause-calling : goal.returns-clause-calling
+returns-clause-calling c = subst (λ (s : CallerAt). IsCalling s.caller s.end) (sym c.self-2.view_is) c.in_ok-went.ensures.calling
+
+pub returns-clause-seen : goal.returns-clause-seen
+returns-clause-seen c = c.self-2.invariant

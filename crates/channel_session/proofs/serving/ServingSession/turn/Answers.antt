@@ -1,8 +1,11 @@
-use Rattle.std.proofs.Common.{◌≡◌, subst, sym, ◌∙◌}
+use Rattle.std.proofs.Common.{◌≡◌, ap, subst, sym, ◌∙◌}
 use Rattle.std.specs.Prelude.{IsSome}
 use Rattle.vchan_rule.specs.Seated.{view}
 use Rattle.vchan_rule.specs.Ends.{IsSameEnd}
-use Rattle.channel_session.specs.Answering.{ServingAt, ServingTurns, ServingWrites}
+use Rattle.channel_session.specs.Answering.{IsAnswering, IsAtWork, ServingAt, ServingTurns, ServingWrites}
+use Rattle.qrexec_data.specs.ServingSide.{ServingState}
+use Rattle.service_gate.specs.declared.builtin.Builtin.{Builtin}
+use Rattle.vchan_rule.proofs.EndLaws.{same_end_then}
 use Rattle.channel_session.specs.Turning.{Pace, KeepsShut}
 use Rattle.channel_session.proofs.TurningLaws.{serving_turns, keeps_shut}
 use Rattle.channel_session.proofs.serving.ServingSession.turn.Goals as goal
@@ -31,3 +34,25 @@ returns-clause-shut c =
     keeps_shut c.args.self.now.pace c.read_on.new.self.pace pace c.args.self.now.end c.is_due.new.self.end c.read_on.new.self.end inside.end (c.in_ok-came.ensures.kept.0 ∙ c.is_due.ensures.same.1)
     c.is_due.ensures.end c.in_ok-came.ensures.end
     (subst (λ (s : ServingAt). KeepsShut c.read_on.new.self.pace s.pace c.read_on.new.self.end s.end) (sym c.self-2.view_is) c.in_ok-went.ensures.shut)
+
+pub returns-clause-end : goal.returns-clause-end
+returns-clause-end c =
+    same_end_then c.args.self.now.end c.is_due.new.self.end c.self-2.inside.end c.is_due.ensures.end
+    (same_end_then c.is_due.new.self.end c.read_on.new.self.end c.self-2.inside.end c.in_ok-came.ensures.end (subst (λ (s : ServingAt). IsSameEnd c.read_on.new.self.end s.end) (sym c.self-2.view_is) c.in_ok-went.ensures.end))
+
+pub returns-clause-idle : goal.returns-clause-idle
+returns-clause-idle c = ap (λ (s : ServingAt). (view s.end).idle) c.self-2.view_is ∙ c.in_ok-went.ensures.idle
+
+pub returns-clause-own : goal.returns-clause-own
+returns-clause-own c =
+    ap (λ (s : ServingAt). s.serving.answering.own) c.self-2.view_is ∙ c.in_ok-went.ensures.own ∙ c.in_ok-came.ensures.own ∙ ap (λ (s : ServingState Builtin). s.answering.own) c.is_due.ensures.same.0
+
+pub returns-clause-work : goal.returns-clause-work
+returns-clause-work c = subst (λ (s : ServingAt). IsAtWork s.serving s.end) (sym c.self-2.view_is) c.in_ok-went.ensures.work
+
+pub returns-clause-answering : goal.returns-clause-answering
+returns-clause-answering c = λ owed h.
+    subst (λ (s : ServingAt). IsAnswering owed s.serving s.end) (sym c.self-2.view_is) (c.in_ok-went.ensures.answering owed (c.in_ok-came.ensures.answering owed (c.is_due.ensures.answering owed h)))
+
+pub returns-clause-seen : goal.returns-clause-seen
+returns-clause-seen c = c.self-2.invariant
