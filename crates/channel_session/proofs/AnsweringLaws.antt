@@ -64,12 +64,16 @@ lent_works old lent end end' piece none lends idle state ended work =
     let now : EndsBy None (view end') = (state ∙ going.0, ended ∙ going.1) in
     record { chunk_is = same.chunk ∙ work.chunk_is; idle = idle; ends = subst (λ o. EndsBy o (view end')) (sym (same.outcome ∙ none)) now }
 
+pub on_answers : (owed : List ℕ → Triple) (old new : ServingState Builtin) (end end' : SeatedEnd) → new.inbox.got ≡ old.inbox.got → ((sent : List ℕ) → ServingStandsFor builtin_owes owed old sent → ServingStandsFor builtin_owes owed new sent)
+    → (view end').got ≡ (view end).got → (view end').sent ≡ (view end).sent → IsAnswering owed old end → IsAnswering owed new end'
+on_answers owed old new end end' same stands got sent h = record {
+  got = same ∙ h.got ∙ sym got;
+  stands = subst (λ l. ServingStandsFor builtin_owes owed new l) (sym sent) (stands (view end).sent h.stands);
+}
+
 pub lent_answers : (owed : List ℕ → Triple) (old lent : ServingState Builtin) (end end' : SeatedEnd) (piece : List ℕ) → LendsAnswers builtin_owes old lent piece → (view end').got ≡ (view end).got → (view end').sent ≡ (view end).sent
     → IsAnswering owed old end → IsAnswering owed lent end'
-lent_answers owed old lent end end' piece lends got sent h = record {
-  got = ap (λ s. s.inbox.got) lends.new_is ∙ h.got ∙ sym got;
-  stands = subst (λ l. ServingStandsFor builtin_owes owed lent l) (sym sent) (lends.stands owed (view end).sent h.stands);
-}
+lent_answers owed old lent end end' piece lends got sent h = on_answers owed old lent end end' (ap (λ s. s.inbox.got) lends.new_is) (λ l stands. lends.stands owed l stands) got sent h
 
 -- and so is one whose bytes went
 pub went_answers : (owed : List ℕ → Triple) (old lent new : ServingState Builtin) (end end' : SeatedEnd) (piece : List ℕ) (count : ℕ) → old.answering.outcome ≡ None → LendsAnswers builtin_owes old lent piece
