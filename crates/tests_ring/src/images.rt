@@ -96,7 +96,7 @@ fn page(alloc: Global, row: Row, lost: u64) -> Result<Words, Fail> {
 }
 
 /// Stores a value in a word, if the page has it.
-fn set(page: &mut Words, name: WordName, value: u64) {
+pub(crate) fn set(page: &mut Words, name: WordName, value: u64) {
     if Layout::new(page.orders()).has(name) {
         page.store(name, value);
     }

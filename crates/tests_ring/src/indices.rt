@@ -5,6 +5,11 @@ use std::test::Fail;
 /// Just below the wrap of an index.
 const LATE: u32 = 4_294_967_290;
 
+/// How many bytes wait, and how many have room.
+fn both(prod: u32, cons: u32, order: Order) -> (u32, u32) {
+    (ready(prod, cons, order), room(prod, cons, order))
+}
+
 #[test]
 fn bytes_that_wait_and_room(rt: HostRuntime) -> Result<(), Fail> {
     let order = Order::new(10).ok_or("order")?;
@@ -23,8 +28,11 @@ fn bytes_that_wait_and_room(rt: HostRuntime) -> Result<(), Fail> {
         (LATE, 4, 0, 0),
     ];
     for (prod, cons, waiting, free) in rows {
-        assert_eq!(rt; ready(prod, cons, order), waiting, "at {prod} {cons}");
-        assert_eq!(rt; room(prod, cons, order), free, "at {prod} {cons}");
+        assert_eq!(rt;
+            both(prod, cons, order),
+            (waiting, free),
+            "at {prod} {cons}"
+        );
     }
     Ok(())
 }

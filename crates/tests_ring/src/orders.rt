@@ -1,6 +1,12 @@
 //! Ring orders: their sizes, how they are chosen and which are refused.
 use ring_words::{BadOrders, Order, Orders, check_orders, choose_orders};
 
+/// Returns the size of the order of this number, and its number again.
+fn size_and_number(number: u16) -> Option<(u32, u16)> {
+    let order = Order::new(number)?;
+    Some((order.size(), order.number()))
+}
+
 #[test]
 fn orders_are_ten_to_twenty(rt: HostRuntime) {
     let sizes = [
@@ -13,19 +19,22 @@ fn orders_are_ten_to_twenty(rt: HostRuntime) {
         (u16::MAX, None),
     ];
     for (number, size) in sizes {
-        let order = Order::new(number);
-        assert_eq!(rt; order.map(|order| order.size()), size, "at {number}");
-        assert_eq!(rt;
-            order.map(|order| order.number()),
-            size.map(|_| number),
-            "at {number}"
-        );
+        let want = size.map(|size| (size, number));
+        assert_eq!(rt; size_and_number(number), want, "at {number}");
     }
 }
 
 /// Returns the two numbers of a pair of orders.
 fn numbers(orders: Orders) -> (u16, u16) {
     (orders.left.number(), orders.right.number())
+}
+
+/// Returns the numbers of the orders for two sizes, or the size that is too large.
+fn chosen(left: u32, right: u32) -> Result<(u16, u16), u32> {
+    match choose_orders(left, right) {
+        Ok(orders) => Ok(numbers(orders)),
+        Err(refused) => Err(refused.size),
+    }
 }
 
 #[test]
@@ -47,8 +56,7 @@ fn chooses_orders(rt: HostRuntime) {
         ((2_000_000, 3_000_000), Err(2_000_000)),
     ];
     for ((left, right), want) in rows {
-        let chosen = choose_orders(left, right).map(numbers).map_err(|e| e.size);
-        assert_eq!(rt; chosen, want, "at {left} {right}");
+        assert_eq!(rt; chosen(left, right), want, "at {left} {right}");
     }
 }
 

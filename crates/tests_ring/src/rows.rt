@@ -7,27 +7,37 @@ ghost use Rattle.ring_words.specs.Rings.{size};
 ghost use Rattle.tests_ring.specs.Rows.{HasCounts, HasMoved, IsNew, IsUnderWay};
 
 use crate::whole::{
-    check_bytes, drain_all, end_stream, letters, read_all, receive_none, receive_whole, send_none,
-    send_whole, write_all, write_none, write_some,
+    check_bytes, drain_all, drain_none, end_stream, letters, read_all, read_none, receive_none,
+    receive_whole, send_none, send_whole, write_all, write_none, write_some,
 };
 use hostile_seat::turn;
 use ring_words::{Orders, Ring, WordName, check_orders};
 use std::alloc::Global;
 use vchan_core::{Answer, Call, EndState};
-use vchan_lifecycle::{DrainAnswer, close, connect, drain, retire};
+use vchan_lifecycle::{close, connect, retire};
 use vchan_notify::{buffer_space, data_ready, peer_gone, take_event};
 use vchan_rule::{End, IdleSeat, Page, Settled};
-use vchan_stream::{ReadAnswer, WriteAnswer, read, write};
 
 fn small_page(alloc: Global) -> Option<(Page, IdleSeat, IdleSeat)>
     ensures seats { IfSome result (λ p. (p.1 ≡ record { page = p.0; role = Server }) × (p.2 ≡ record { page = p.0; role = Client })) }
     ensures size { IfSome result (λ p. size p.0.orders.left ≡ 1024) }
 {
-    let orders: Orders = check_orders(10, 11).ok()?;
+    match Page::open(alloc, small_orders()?, 0) {
+        Ok(opened) => Some(opened),
+        Err(_) => None,
+    }
+}
+
+fn small_orders() -> Option<Orders>
+    ensures { IfSome result (λ orders. size orders.left ≡ 1024) }
+{
+    let Ok(orders) = check_orders(10, 11) else {
+        return None;
+    };
     if orders.left.size() != 1024 {
         return None;
     }
-    Page::open(alloc, orders, 0).ok()
+    Some(orders)
 }
 
 /// Returns the two ends, after the client has connected.
@@ -50,8 +60,8 @@ pub fn fresh_page(alloc: Global) -> Option<Settled>
 {
     let (page, server, client) = small_page(alloc)?;
     let (mut server, client) = connected(&page, server, client)?;
-    let found = drain(&mut server, &mut [0; 4]);
-    if found != (DrainAnswer::NotYet { prod: 0, cons: 0 }) || client.state() != EndState::Open {
+    drain_none(&mut server, &mut [0; 4], 0, 0)?;
+    if client.state() != EndState::Open {
         return None;
     }
     let server = retire(server);
@@ -175,13 +185,9 @@ fn all_was_got(page: &Settled)
 pub fn events(alloc: Global) -> Option<(bool, bool)> {
     let (page, server, client) = small_page(alloc)?;
     let (mut server, mut client) = connected(&page, server, client)?;
-    if read(&mut server, &mut [0; 1]) != (ReadAnswer::Empty { prod: 0, cons: 0 }) {
-        return None;
-    }
-    let one = WriteAnswer::Wrote { count: 1 };
-    if write(&mut client, b"a") != one || write(&mut client, b"b") != one {
-        return None;
-    }
+    read_none(&mut server, &mut [0; 1], 0, 0)?;
+    write_some(&mut client, b"a", 1)?;
+    write_some(&mut client, b"b", 1)?;
     Some((take_event(&mut server), take_event(&mut server)))
 }
 
@@ -234,9 +240,9 @@ pub fn consumed_of_full_ring(alloc: Global) -> Option<Settled>
 {
     let (page, server, client) = small_page(alloc)?;
     let (mut server, mut client) = connected(&page, server, client)?;
-    write_all(&mut client, letters(1024))?;
+    write_some(&mut client, letters(1024), 1024)?;
     read_all(&mut server, &mut [0; 2])?;
-    write_all(&mut client, b"bc")?;
+    write_some(&mut client, b"bc", 2)?;
     let client = turn(client).retire();
     let server = retire(server);
     let settled = page.finish(server, client);

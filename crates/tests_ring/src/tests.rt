@@ -13,23 +13,49 @@ use std::thread::join;
 use vchan_lifecycle::{close, connect};
 use vchan_rule::{IdleSeat, Page};
 
+// Whether rows answer as they should, in functions of their own: what the contracts of the rows say stays
+// out of the test.
+fn fresh_page_is_honest(alloc: Global) -> bool {
+    match fresh_page(alloc) {
+        Some(settled) => !settled.server_turned() && !settled.client_turned(),
+        None => false,
+    }
+}
+
+fn writes_move(alloc: Global) -> bool {
+    five_bytes(alloc).is_some() && full_ring(alloc).is_some()
+}
+
+fn packet_begins(alloc: Global) -> Option<[u8; 4]> {
+    let (_, bytes) = packets(alloc)?;
+    Some(bytes)
+}
+
+fn late_and_long_are_told(alloc: Global) -> bool {
+    long_packet(alloc).is_some() && closed_race(alloc).is_some()
+}
+
+fn prefix_is_consumed(alloc: Global) -> Option<bool> {
+    let (settled, bytes) = consumed_prefix(alloc)?;
+    Some(bytes == [99; 4] && settled.client_turned() && !settled.server_turned())
+}
+
+fn full_ring_is_consumed(alloc: Global) -> bool {
+    consumed_of_full_ring(alloc).is_some()
+}
+
 #[test]
-fn rows_answer_as_they_should(rt: HostRuntime) -> Result<(), Fail> {
-    let settled = fresh_page(rt.alloc()).ok_or("fresh page")?;
-    assert!(rt; !settled.server_turned() && !settled.client_turned());
-    assert!(rt; five_bytes(rt.alloc()).is_some());
-    assert!(rt; full_ring(rt.alloc()).is_some());
-    let (_, bytes) = packets(rt.alloc()).ok_or("packets")?;
-    assert!(rt; bytes == *b"aaaa");
-    assert!(rt; long_packet(rt.alloc()).is_some());
-    assert!(rt; closed_race(rt.alloc()).is_some());
-    assert!(rt; events(rt.alloc()) == Some((true, false)));
-    assert!(rt; ready_space_gone(rt.alloc()) == Some((0, 1024, false, true)));
-    let (settled, bytes) = consumed_prefix(rt.alloc()).ok_or("consumed prefix")?;
-    assert!(rt; bytes == [99; 4] && settled.client_turned() && !settled.server_turned());
-    assert!(rt; consumed_of_full_ring(rt.alloc()).is_some());
-    assert!(rt; said_by_hand(rt.alloc()) == Some((1024, 1024, [false; 3])));
-    Ok(())
+fn rows_answer_as_they_should(rt: HostRuntime) {
+    let alloc = rt.alloc();
+    assert!(rt; fresh_page_is_honest(alloc));
+    assert!(rt; writes_move(alloc));
+    assert!(rt; packet_begins(alloc) == Some(*b"aaaa"));
+    assert!(rt; late_and_long_are_told(alloc));
+    assert!(rt; events(alloc) == Some((true, false)));
+    assert!(rt; ready_space_gone(alloc) == Some((0, 1024, false, true)));
+    assert!(rt; prefix_is_consumed(alloc) == Some(true));
+    assert!(rt; full_ring_is_consumed(alloc));
+    assert!(rt; said_by_hand(alloc) == Some((1024, 1024, [false; 3])));
 }
 
 fn server_exchanges(page: &Page, seat: IdleSeat) -> Option<u8>

@@ -16,7 +16,15 @@ pub(crate) fn letters(count: usize) -> &'static [u8]
     requires { count ≤ 1025 }
     ensures { length result.now ≡ count }
 {
-    &LETTERS[..count]
+    first(&LETTERS, count)
+}
+
+/// Returns the first bytes of an array of which the proof sees no more than its length.
+fn first(bytes: &[u8; 1025], count: usize) -> &[u8]
+    requires { count ≤ 1025 }
+    ensures { length result.now ≡ count }
+{
+    &bytes[..count]
 }
 
 /// Writes `most` of the first bytes.
@@ -120,6 +128,35 @@ pub(crate) fn write_none(end: &mut End<'_>, bytes: &[u8], prod: u32, cons: u32) 
 {
     match write(end, bytes) {
         WriteAnswer::Full { prod: p, cons: c } if p == prod && c == cons => Some(()),
+        _ => None,
+    }
+}
+
+/// Makes a read that finds no byte, at these indices.
+pub(crate) fn read_none(end: &mut End<'_>, buf: &mut [u8], prod: u32, cons: u32) -> Option<()>
+    requires open { IsOpen end.old }
+    ensures same { IsSameEnd end.old end.new }
+    ensures open { IsOpen end.new }
+    ensures sent { IfSome result (λ _. (view end.new).sent ≡ (view end.old).sent) }
+    ensures got { IfSome result (λ _. (view end.new).got ≡ (view end.old).got) }
+{
+    match read(end, buf) {
+        ReadAnswer::Empty { prod: p, cons: c } if p == prod && c == cons => Some(()),
+        _ => None,
+    }
+}
+
+/// Makes a drain that finds no byte, at these indices.
+pub(crate) fn drain_none(end: &mut End<'_>, buf: &mut [u8], prod: u32, cons: u32) -> Option<()>
+    requires open { IsOpen end.old }
+    requires some { 0 < length buf.old }
+    ensures same { IsSameEnd end.old end.new }
+    ensures open { IsOpen end.new }
+    ensures sent { IfSome result (λ _. (view end.new).sent ≡ (view end.old).sent) }
+    ensures got { IfSome result (λ _. (view end.new).got ≡ (view end.old).got) }
+{
+    match drain(end, buf) {
+        DrainAnswer::NotYet { prod: p, cons: c } if p == prod && c == cons => Some(()),
         _ => None,
     }
 }

@@ -1,5 +1,8 @@
 //! The numbers of a page's words, and what the words hold.
-use ring_words::{Layout, Ring, WordName, Words, check_orders};
+use crate::images::set;
+use ring_words::{Layout, Orders, Ring, WordName, Words, check_orders};
+use std::alloc::Global;
+use std::process::Abort;
 use std::test::Fail;
 
 #[test]
@@ -50,30 +53,49 @@ fn byte(ring: Ring, at: u32) -> WordName {
     WordName::RingByte { ring, at }
 }
 
-#[test]
-fn holds_what_was_stored(rt: HostRuntime) -> Result<(), Fail> {
-    let orders = check_orders(10, 11)?;
-    let layout = Layout::new(orders);
-    let mut words = Words::of(orders, vec![in rt.alloc(); 0u64; layout.count()]?);
-    let first = WordName::RingByte {
-        ring: Ring::Right,
-        at: 0,
-    };
-    assert!(rt; layout.has(first));
-    words.store(WordName::RightProd, 4_294_967_295);
-    words.store(first, u64::MAX);
-    assert_eq!(rt; words.load(WordName::RightProd), 4_294_967_295);
-    assert_eq!(rt; words.load(first), u64::MAX);
-    assert_eq!(rt; words.load(WordName::LeftProd), 0);
-    assert_eq!(rt; words.orders(), orders);
-    assert_eq!(rt; orders.left.size(), 1024);
+// Single accesses, in functions of their own: what a contract says of a page's words stays out of the test.
+fn loads(words: &Words, name: WordName) -> Option<u64> {
+    if Layout::new(words.orders()).has(name) {
+        return Some(words.load(name));
+    }
+    None
+}
+
+/// Stores the last two bytes of a left ring of 1,024 bytes, and returns the last three.
+fn last_bytes(words: &mut Words) -> Option<[u8; 3]> {
+    if words.orders().left.size() != 1024 {
+        return None;
+    }
     words.store_bytes(Ring::Left, 1022, b"xy");
     let mut bytes = [0u8; 3];
     words.load_bytes(Ring::Left, 1021, &mut bytes);
-    assert_eq!(rt; bytes, *b"\0xy");
-    let list = words.list();
+    Some(bytes)
+}
+
+fn check_list(rt: &impl Abort, list: &[u64]) {
     assert_eq!(rt; list.len(), 3086);
     assert_eq!(rt; list[3], 4_294_967_295);
     assert_eq!(rt; list[1038], u64::MAX);
+}
+
+/// A page of these orders whose words hold 0.
+fn empty(alloc: Global, orders: Orders) -> Result<Words, Fail> {
+    let count = Layout::new(orders).count();
+    Ok(Words::of(orders, vec![in alloc; 0u64; count]?))
+}
+
+#[test]
+fn holds_what_was_stored(rt: HostRuntime) -> Result<(), Fail> {
+    let orders = check_orders(10, 11)?;
+    let mut words = empty(rt.alloc(), orders)?;
+    let first = byte(Ring::Right, 0);
+    set(&mut words, WordName::RightProd, 4_294_967_295);
+    set(&mut words, first, u64::MAX);
+    assert_eq!(rt; loads(&words, WordName::RightProd), Some(4_294_967_295));
+    assert_eq!(rt; loads(&words, first), Some(u64::MAX));
+    assert_eq!(rt; loads(&words, WordName::LeftProd), Some(0));
+    assert_eq!(rt; words.orders(), orders);
+    assert_eq!(rt; last_bytes(&mut words), Some(*b"\0xy"));
+    check_list(&rt, words.list());
     Ok(())
 }

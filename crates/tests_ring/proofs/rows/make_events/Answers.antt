@@ -1,4 +1,4 @@
-use Rattle.std.proofs.Common.{rules, ◌≡◌, ℕ, List, ◌∙◌}
+use Rattle.std.proofs.Common.{rules, ◌≡◌, ◌∙◌}
 use Rattle.tests_ring.proofs.SentLaws.{sent_stays}
 use Rattle.tests_ring.proofs.rows.make_events.Goals as goal
 
