@@ -101,12 +101,27 @@ pub(crate) fn deal<'p>(
     ensures { IfOk result (λ tasks. AreSides page.now.table client service tasks.items) }
 {
     let mut tasks = Vec::with_capacity(alloc, 2)?;
-    let serving = Serving::new(alloc, service, VERSION, CHUNK)?;
-    let room = make_room(alloc, orders.left)?;
+    // In a call, here and below: else each part of what is held would be dropped at each exit in the proof.
+    let Ok(room) = make_room(alloc, orders.left) else {
+        drop(tasks);
+        return Err(Memory);
+    };
+    let Ok(serving) = Serving::new(alloc, service, VERSION, CHUNK) else {
+        drop(tasks);
+        return Err(Memory);
+    };
     match client {
         Client::Call { stdin } => {
-            let caller = Caller::new(alloc, stdin.into_list(), VERSION, CHUNK)?;
-            let replies = make_room(alloc, orders.right)?;
+            let Ok(replies) = make_room(alloc, orders.right) else {
+                drop(tasks);
+                drop(serving);
+                return Err(Memory);
+            };
+            let Ok(caller) = Caller::new(alloc, stdin.into_list(), VERSION, CHUNK) else {
+                drop(tasks);
+                drop(serving);
+                return Err(Memory);
+            };
             tasks.push_reserved(calling(page, client_seat, caller, replies));
         }
         Client::Hostile { seed, stores } => {

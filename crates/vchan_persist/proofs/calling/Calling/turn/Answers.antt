@@ -1,0 +1,33 @@
+-- A turn of the session keeps what it stands for, and its end is that of the page.
+use Rattle.std.proofs.Common.{◌≡◌, ◌<◌, ℕ, List, length, ap, sym, subst, ◌∙◌, arith}
+use Rattle.std.proofs.lemmas.List.{take_at}
+use Rattle.end_view.specs.EndView.{EndView}
+use Rattle.task_duties.specs.Agent.Sessions.{CallerOwes}
+use Rattle.vchan_rule.specs.Seated.{last_view}
+use Rattle.vchan_persist.specs.Given.{CallingGiven}
+use Rattle.vchan_persist.specs.Owes.{HasCalled}
+use Rattle.vchan_persist.proofs.calling.Calling.turn.Goals as goal
+
+pub returns-in-Some : goal.returns-in-Some
+returns-in-Some c =
+    let v = c.self.invariant in
+    let e = c.in-Ok.ensures in
+    let over = c.finish.ensures in
+    subst (λ (given : CallingGiven). HasCalled given.page given.stdin c.finish.result) c.self.view_is (record {
+      is_end = record {
+        page_is = ap (λ (end : EndView). end.page) over.end ∙ e.end.0;
+        role_is = ap (λ (end : EndView). end.role) over.end ∙ e.end.1 ∙ v.3;
+      };
+      honest = over.honest;
+      owes = subst (λ (own : ℕ). CallerOwes own c.self.inside.session.caller.requests.input c.finish.result.done (last_view c.finish.result.retired)) (e.same.own ∙ v.2)
+          (subst (λ (input : List ℕ). CallerOwes c.turn.new.self.caller.replies.own input c.finish.result.done (last_view c.finish.result.retired)) e.same.input over.owed);
+    })
+
+pub invariant_of-result : goal.invariant_of-result
+invariant_of-result c =
+    let inside = c.self.inside in
+    let v = c.self.invariant in
+    let e = c.in-Ok.ensures in
+    let long : length c.turn.new.buf ≡ length inside.room.items = e.long ∙ ap (λ (xs : List ℕ). length xs) c.as_mut_slice.ensures.value in
+    let some : 0 < length c.turn.new.buf = omega (arith, long, v.4) in
+    (e.calling, sym c.outcome.ensures ∙ c.in-None.is, e.same.own ∙ v.2, e.end.1 ∙ v.3, subst (λ (xs : List ℕ). 0 < length xs) (sym (take_at c.turn.new.buf _ inside.room.len (e.long ∙ c.as_mut_slice.ensures.len))) some)
