@@ -1,5 +1,5 @@
 -- An agent whose port alone has moved.
-use Rattle.std.proofs.Common.{◌≡◌, ℕ, List, [], refl, ap, sym, ◌∙◌, Some, None, Option, subst}
+use Rattle.std.proofs.Common.{◌≡◌, ℕ, Bool, List, [], refl, ap, sym, ◌∙◌, Some, None, Option, subst}
 use Rattle.std.specs.List.{AllByRecursion as Each}
 use Rattle.qrexec_frame.specs.declared.message.Message.{Message}
 use Rattle.vchan_rule.specs.Seated.{SeatedEnd, view, IsOpen}
@@ -9,6 +9,12 @@ use Rattle.vchan_packet.specs.Packet.{sent_to}
 use Rattle.vchan_packet.specs.declared.SendAnswer.{SendAnswer}
 use Rattle.vchan_packet.specs.declared.SendAnswer.TheVariants.{Sent}
 use Rattle.vchan_packet.proofs.PacketLaws.{sent_got}
+use Rattle.vchan_lifecycle.specs.Lifecycle.{drained_to}
+use Rattle.vchan_lifecycle.specs.declared.DrainAnswer.{DrainAnswer}
+use Rattle.vchan_lifecycle.specs.declared.DrainAnswer.TheVariants as drain
+use Rattle.vchan_protocol.specs.History.Core.{first_ended}
+use Rattle.vchan_protocol.specs.declared.side.EndedBy.{EndedBy}
+use Rattle.vchan_protocol.specs.declared.side.EndedBy.TheVariants as by
 use Rattle.end_view.specs.EndView.{EndView}
 use Rattle.task_duties.specs.Agent.Saying.{IsOfVersion}
 use Rattle.control_port.specs.Port.{PortState, HasSaid, HasHeard, HasHeardAll, OnlyHears, Hands}
@@ -19,6 +25,7 @@ use Rattle.qrexec_data.specs.declared.outcome.SessionFault.{SessionFault}
 use Rattle.task_duties.specs.Hearing.{hears}
 use Rattle.agent_task.specs.declared.agent.Agent.{Agent}
 use Rattle.agent_task.specs.Standing.{Stands, IsHearing, Awaits, HasHeardOut, IsUp}
+use Rattle.agent_task.specs.Ending.{HasEnded, end_by, IsDrained}
 use Rattle.agent_task.proofs.HeardLaws.{KeepsVersion, kept_at_next, kept_at_end}
 
 abbrev pub with_port : Agent → PortState → Agent
@@ -94,6 +101,30 @@ greets_up a port sent payload up end opened view_is said heard same =
       all = still_all a.control.port port h.heard (ap (λ e. e.got) view_is ∙ sent_got (view a.control.port.end) sent payload) same up.all;
       going = ap (λ e. e.ended) view_is ∙ ended_sent (view a.control.port.end) sent payload ∙ up.going;
     }
+
+-- ---- a drain
+
+ended_by : (e : EndView) (drained : DrainAnswer) (after : List ℕ) (saw : Bool) → e.ended ≡ None → HasEnded (end_by drained) (drained_to e drained after saw)
+ended_by e (drain.More count) after saw none = none
+ended_by e (drain.NotYet prod cons) after saw none = none
+ended_by e drain.AllRead after saw none = (refl, ap (λ (o : Option EndedBy). first_ended o (Some by.AllRead)) none)
+ended_by e (drain.PeerGone prod cons) after saw none = (refl, ap (λ (o : Option EndedBy). first_ended o (Some by.PeerGone)) none)
+
+pub is_drained : (a new : Agent) (drained : DrainAnswer) (after : List ℕ) (saw : Bool) → IsUp a → view new.control.port.end ≡ drained_to (view a.control.port.end) drained after saw → IsDrained drained new
+is_drained a new drained after saw up is = subst (λ (e : EndView). HasEnded (end_by drained) e) (sym is) (ended_by (view a.control.port.end) drained after saw up.going)
+
+-- bytes that came are handed out later
+pub hears_later : (a : Agent) (port : PortState) → IsHearing a → IsSameEnd a.control.port.end port.end → IsOpen port.end → ((said : List Message) → HasSaid a.control.port said → HasSaid port said)
+    → ((heard : List Message) → HasHeard a.control.port heard → HasHeard port heard)
+    → (port.talker ≡ a.control.port.talker) × (port.own ≡ a.control.port.own) × (port.greeted ≡ a.control.port.greeted) × (port.version ≡ a.control.port.version) × (port.fault ≡ a.control.port.fault) → IsHearing (with_port a port)
+hears_later a port h end opened said heard same = record {
+  heard = h.heard;
+  said = h.said;
+  stands = port_stands a port h.heard h.said (record { end = end; own = same.1; talker = same.0; version = kept_same a.control.port port same.3; said_is = said h.said h.stands.speaks.said_is }) h.stands;
+  keeps = h.keeps;
+  hears = heard h.heard h.hears;
+  sound = record { fine = same.4 ∙ h.sound.fine; is_open = opened; up = h.sound.up };
+}
 
 -- ---- the next message
 

@@ -157,7 +157,8 @@ impl<'p> AgentTask<'p> {
             queue,
             unsaid: VecDeque::new(alloc),
         };
-        Box::replace(
+        // In a call: dropped here, each part of an agent would be dropped in the proof of this function.
+        drop(Box::replace(
             &mut agent,
             Some(Agent {
                 alloc,
@@ -166,7 +167,7 @@ impl<'p> AgentTask<'p> {
                 slots,
                 over: None,
             }),
-        );
+        ));
         AgentTask {
             agent,
             scratch,

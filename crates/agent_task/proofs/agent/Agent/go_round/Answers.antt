@@ -4,9 +4,10 @@ use Rattle.agent_task.specs.declared.agent.Agent.{Agent}
 use Rattle.vchan_rule.specs.Ends.{IsSameEnd}
 use Rattle.agent_slots.specs.Slots.{SlotsState, late_count}
 use Rattle.agent_task.specs.Standing.{KeepsOpen}
+use Rattle.agent_task.specs.Ending.{IsRunning}
 use Rattle.agent_task.specs.Moving.{Listens, SaysNoMore, TurnsControl, KeepsControl, asked_at_most}
 use Rattle.agent_task.proofs.MovingLaws.{over_not_up, turns_control, control_same, control_heard, control_said, control_then}
-use Rattle.agent_task.proofs.RoundLaws.{running_up, running_whole}
+use Rattle.agent_task.proofs.RoundLaws.{running_up, up_running, running_whole, running_rests}
 use Rattle.agent_task.proofs.SessionLaws.{none_of, keeps_same, turns_each}
 use Rattle.agent_task.proofs.agent.Agent.go_round.Goals as goal
 use Rattle.agent_task.proofs.agent.Agent.go_round.Goals.{then-is_none+in_ok-listen, else-is_none, then-is_none-2+in_ok-say, else-is_none-2}
@@ -84,3 +85,12 @@ returns-clause-channel c =
       | else-is_none-2 w ↦ subst (λ (a : Agent). KeepsControl turned.over a.over turned.control a.control) (sym w.self-is) (control_same turned.over turned.over turned.control turned.control refl refl)
     ] in
     control_then old.over mid.over turned.over c.if-is_none-2.self.over old.control mid.control turned.control c.if-is_none-2.self.control first second third
+
+pub returns-clause-running : goal.returns-clause-running
+returns-clause-running c = elim c.if-is_none-2.branch [
+  | then-is_none-2+in_ok-say w ↦ subst (λ (a : Agent). IsRunning a) (sym w.self-is) (up_running w.say.new.self w.in_ok-say.ensures.up)
+  | else-is_none-2 w ↦ subst (λ (a : Agent). IsRunning a) (sym w.self-is) c.in_ok-moved.ensures.running
+]
+
+pub returns-clause-retire : goal.returns-clause-retire
+returns-clause-retire c = running_rests c.if-is_none-2.self (returns-clause-running c)

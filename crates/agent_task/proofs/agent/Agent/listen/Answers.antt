@@ -5,6 +5,7 @@ use Rattle.vchan_rule.specs.Ends.{IsSameEnd}
 use Rattle.vchan_rule.proofs.EndLaws.{same_end_then}
 use Rattle.agent_queue.specs.Queue.{QueueState}
 use Rattle.agent_control.specs.declared.control.AgentControl.{AgentControl}
+use Rattle.agent_task.specs.Ending.{HasEnded, end_by}
 use Rattle.agent_task.specs.Moving.{Listens}
 use Rattle.agent_task.proofs.MovingLaws.{listens_by, listens_keep}
 use Rattle.agent_task.proofs.PortLaws.{same_end_is}
@@ -47,3 +48,9 @@ returns-clause-bytes c =
     let settled = c.end_channel.new.self.control.port.end in
     listens_keep c.args.self.now.control.port c.greet.new.self.control.port c.drain.new.self.control.port.end settled c.in_ok-drained.drained c.in_ok-greet.ensures.greets c.in_ok-greet.ensures.got c.in_ok-drained.ensures.drains
     (subst (λ (e : SeatedEnd). KeepsBytes (view e) (view settled)) c.hear_all.ensures.end c.end_channel.ensures.bytes)
+
+pub end_channel-requires-clause-drained : goal.end_channel-requires-clause-drained
+end_channel-requires-clause-drained c = subst (λ (e : SeatedEnd). HasEnded (end_by c.in_ok-drained.drained) (view e)) (sym c.hear_all.ensures.end) c.in_ok-drained.ensures.drained
+
+pub returns-clause-given : goal.returns-clause-given
+returns-clause-given c = c.end_channel.ensures.given ∙ (c.hear_all.ensures.same.0 ∙ (c.drain.ensures.same.0 ∙ c.greet.ensures.same.0))
