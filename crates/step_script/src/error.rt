@@ -78,7 +78,7 @@ impl<T: Drop> From<AllocFailed<T>> for ScriptError {
 }
 
 /// Why a line wasn't read.
-#[derive(Clone, Copy, Debug, PartialEq, Eq)]
+#[derive(Clone, Copy)]
 pub(crate) enum LineError {
     /// It doesn't fit.
     Bad(ScriptKind),
@@ -125,7 +125,7 @@ impl From<PushError> for LineError {
 }
 
 /// A bad line, found by a reader that takes no memory.
-#[derive(Clone, Copy, Debug, PartialEq, Eq)]
+#[derive(Clone, Copy)]
 pub(crate) struct BadLine {
     /// The number of the line, from 1 on.
     pub(crate) line: u32,

@@ -26,7 +26,7 @@ impl Model for Script {
 }
 
 /// How a page begins: the first line of a script, and its `start` line if it has one.
-#[derive(Clone, Copy, Debug, PartialEq, Eq)]
+#[derive(Clone, Copy)]
 pub struct Opening {
     /// The orders of the page's rings.
     pub orders: Orders,

@@ -5,7 +5,7 @@ ghost use Rattle.step_script.specs.Parts.Refusals.{line_refusal};
 use vchan_core::Refusal as CallRefusal;
 
 /// Why an end couldn't do what a line says: the first of these that applies.
-#[derive(Clone, Copy, Debug, PartialEq, Eq)]
+#[derive(Clone, Copy)]
 pub(crate) enum LineRefusal {
     /// The end was turned over to a hostile user.
     Turned,

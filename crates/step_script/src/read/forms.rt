@@ -10,7 +10,7 @@ use script_words::WordsOfLine;
 use vchan_core::Call;
 
 /// A call as its word names it, which determines the form of the words after it.
-#[derive(Clone, Copy, Debug, PartialEq, Eq)]
+#[derive(Clone, Copy)]
 pub(crate) enum CallForm {
     /// `write BYTES`.
     Write,
@@ -27,7 +27,7 @@ pub(crate) enum CallForm {
 }
 
 /// What an end does that isn't a whole call.
-#[derive(Clone, Copy, Debug, PartialEq, Eq)]
+#[derive(Clone, Copy)]
 pub(crate) enum Act {
     /// `begin CALL`.
     Begin,
@@ -42,7 +42,7 @@ pub(crate) enum Act {
 }
 
 /// What an end does, as a word of a script names it.
-#[derive(Clone, Copy, Debug, PartialEq, Eq)]
+#[derive(Clone, Copy)]
 pub(crate) enum Verb {
     /// It makes a whole call.
     Makes(CallForm),

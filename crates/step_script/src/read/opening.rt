@@ -48,6 +48,13 @@ fn read_open(mut words: WordsOfLine) -> Result<Opening, ScriptKind>
 {
     let left = words.next().ok_or(ScriptKind::BadHeader)?;
     let right = words.only().ok_or(ScriptKind::BadHeader)?;
+    read_open_words(left, right)
+}
+
+/// Reads two words of an open page.
+fn read_open_words(left: &[u8], right: &[u8]) -> Result<Opening, ScriptKind>
+    ensures { Finds (λ opening. opening) result (open_of left.now right.now) }
+{
     let left = read_given(left)?;
     let right = read_given(right)?;
     let said = (read_order(left)?, read_order(right)?);
