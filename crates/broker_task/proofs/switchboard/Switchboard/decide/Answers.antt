@@ -10,8 +10,8 @@ use Rattle.broker_task.specs.declared.daemon.Daemon.{Daemon}
 use Rattle.broker_task.specs.Replies.{IsReplyTo, IsWithin, AreFit, HasShortNames}
 use Rattle.broker_task.specs.Letters.{IsAt}
 use Rattle.broker_task.specs.Lines.{HasRoom}
-use Rattle.broker_task.specs.Posting.{EachMoves, Posts, IsPosting}
-use Rattle.broker_task.proofs.PostLaws.{on_ok, moves_as}
+use Rattle.broker_task.specs.Posting.{EachMoves, Posts, SamePort, IsPosting}
+use Rattle.broker_task.proofs.PostLaws.{on_ok, moves_as, moves_none, same_port}
 use Rattle.broker_task.proofs.ReplyLaws.{within_reply, journal_end, moved_back, numbered_from}
 use Rattle.broker_task.proofs.PostingLaws.{posting_more}
 use Rattle.broker_task.specs.Moving.{StandsBy}
@@ -100,3 +100,20 @@ returns-clause-holds c =
     let w = goal.at.returns-clause-holds c in
     on_ok c.post.result (moved w.After-post (reply w.After-as_mut_slice))
     (λ moves. holds_posts c.args.self.now.broker.hub c.args.self.now.broker.journal _ (after w.After-post) c.args.event c.in_ok-decision.decision moves c.requires.posting c.in_ok-decision.ensures.decided c.requires.holds)
+
+pub returns-clause-hub : goal.returns-clause-hub
+returns-clause-hub c = ap (λ (b : Brokered). b.hub) c.in_ok-decision.ensures.kept
+
+pub returns-clause-ports : goal.returns-clause-ports
+returns-clause-ports c =
+    let ds = c.args.self.now.daemons in
+    moved_back SamePort ds.items c.post.new.daemons ds.len (omega (arith, ds.ok.0)) (subst (λ (l : List Daemon). EachMoves SamePort l c.post.new.daemons) c.as_mut_slice.ensures.value c.post.ensures.ports)
+
+pub returns-in_err-reply-clause-ports : goal.returns-in_err-reply-clause-ports
+returns-in_err-reply-clause-ports c = moves_none SamePort c.args.self.now.daemons.items (λ d x. same_port d x)
+
+pub returns-in_err-decision-clause-ports : goal.returns-in_err-decision-clause-ports
+returns-in_err-decision-clause-ports c = moves_none SamePort c.args.self.now.daemons.items (λ d x. same_port d x)
+
+pub returns-in_err-reply-clause-hub : goal.returns-in_err-reply-clause-hub
+returns-in_err-reply-clause-hub c = ap (λ (b : Brokered). b.hub) c.in_ok-decision.ensures.kept
