@@ -3,9 +3,8 @@
 ghost use Rattle.std.specs.Prelude.{◌≡◌, ◌≤◌, ◌*◌, OnOk, IfOk, All, length, vec_len};
 ghost use Rattle.call_broker.specs.Domains.{count_of};
 
-use crate::frames::{cleaned_name, cleaned_service, cleaned_target};
+use crate::frames::{name_becomes, service_becomes, target_becomes, text};
 use call_broker::{Broker, Cause, Decision, DomainEntry, Event};
-use qrexec_frame::Text;
 use std::alloc::Global;
 use std::process::Abort;
 use std::test::Fail;
@@ -48,10 +47,6 @@ macro_rules! ended {
 
 /// An event, and the decision on it.
 type Row = (Told, Decision);
-
-fn text(alloc: Global, text: &str) -> Result<Text, Fail> {
-    Ok(Text::of(alloc, text.as_bytes())?)
-}
 
 /// A broker of domains with these names, and this many pages for each ordered pair.
 fn broker_of(alloc: Global, names: &[&str], pages: &[u32]) -> Result<Broker, Fail>
@@ -213,9 +208,9 @@ fn check_cleaned(rt: &(impl Abort + AllocGlobal)) -> Result<(), Fail> {
 #[test]
 fn cleaned_names(rt: HostRuntime) -> Result<(), Fail> {
     let alloc = rt.alloc();
-    assert!(rt; cleaned_name(alloc, "a b$")?.bytes() == b"a_b_".as_slice());
-    assert!(rt; cleaned_service(alloc, "echo a+b")?.bytes() == b"echo_a+b".as_slice());
-    assert!(rt; cleaned_target(alloc, "@x:y+z")?.bytes() == b"@x:y_z".as_slice());
+    assert!(rt; name_becomes(alloc, "a b$", b"a_b_")?);
+    assert!(rt; service_becomes(alloc, "echo a+b", b"echo_a+b")?);
+    assert!(rt; target_becomes(alloc, "@x:y+z", b"@x:y_z")?);
     check_cleaned(&rt)
 }
 

@@ -34,26 +34,31 @@ fn lends_bodies(rt: HostRuntime) -> Result<(), Fail> {
     check_body(&rt, &mut Decoder::new(rt.alloc(), Channel::Data), &bytes)
 }
 
-// The cleaning calls, in functions of their own: what a contract says of a text stays out of the tests.
-pub(crate) fn cleaned_name(alloc: Global, name: &str) -> Result<Text, Fail> {
-    Ok(clean_name(alloc, &Text::of(alloc, name.as_bytes())?)?)
+pub(crate) fn text(alloc: Global, text: &str) -> Result<Text, Fail> {
+    Ok(Text::of(alloc, text.as_bytes())?)
 }
 
-pub(crate) fn cleaned_service(alloc: Global, service: &str) -> Result<Text, Fail> {
-    Ok(clean_service(alloc, &Text::of(alloc, service.as_bytes())?)?)
+// Whether a cleaning call gives these bytes, in functions of their own: what a contract says of a text, and
+// the text's end, stay out of the tests.
+pub(crate) fn name_becomes(alloc: Global, name: &str, clean: &[u8]) -> Result<bool, Fail> {
+    Ok(clean_name(alloc, &text(alloc, name)?)?.bytes() == clean)
 }
 
-pub(crate) fn cleaned_target(alloc: Global, target: &str) -> Result<Text, Fail> {
-    Ok(clean_target(alloc, &Text::of(alloc, target.as_bytes())?)?)
+pub(crate) fn service_becomes(alloc: Global, service: &str, clean: &[u8]) -> Result<bool, Fail> {
+    Ok(clean_service(alloc, &text(alloc, service)?)?.bytes() == clean)
+}
+
+pub(crate) fn target_becomes(alloc: Global, target: &str, clean: &[u8]) -> Result<bool, Fail> {
+    Ok(clean_target(alloc, &text(alloc, target)?)?.bytes() == clean)
 }
 
 #[test]
 fn cleans_texts(rt: HostRuntime) -> Result<(), Fail> {
     let alloc = rt.alloc();
     let text = "a @:+$";
-    assert!(rt; cleaned_name(alloc, text)?.bytes() == b"a_____".as_slice());
-    assert!(rt; cleaned_service(alloc, text)?.bytes() == b"a___+_".as_slice());
-    assert!(rt; cleaned_target(alloc, text)?.bytes() == b"a_@:__".as_slice());
+    assert!(rt; name_becomes(alloc, text, b"a_____")?);
+    assert!(rt; service_becomes(alloc, text, b"a___+_")?);
+    assert!(rt; target_becomes(alloc, text, b"a_@:__")?);
     Ok(())
 }
 
@@ -63,13 +68,21 @@ fn fitting_line(rt: &(impl Abort + AllocGlobal), message: &Message) -> Result<Ve
     message_line(rt.alloc(), message)
 }
 
+fn is_no_text(alloc: Global, bytes: &[u8]) -> bool {
+    Text::of(alloc, bytes).is_err()
+}
+
+/// Whether the clone of a text of these bytes has them too.
+fn is_cloned(alloc: Global, bytes: &[u8]) -> Result<bool, Fail> {
+    Ok(Text::of(alloc, bytes)?.clone()?.bytes() == bytes)
+}
+
 // The lines of messages that own memory are rows of tests/cli: a function that owns one is dear to prove.
 #[test]
 fn prints_texts_without_nul(rt: HostRuntime) -> Result<(), Fail> {
     let alloc = rt.alloc();
-    assert!(rt; Text::of(alloc, b"a\0b").is_err());
-    let text = Text::of(alloc, b"call 1")?.clone()?;
-    assert!(rt; text.bytes() == b"call 1".as_slice());
+    assert!(rt; is_no_text(alloc, b"a\0b"));
+    assert!(rt; is_cloned(alloc, b"call 1")?);
     let line = fitting_line(&rt, &Message::Hello { version: 3 })?;
     assert!(rt; line.as_slice() == b"hello 3".as_slice());
     Ok(())

@@ -54,13 +54,19 @@ fn tells_last<S: Service>(side: &mut Serving<S>, last: Outcome) -> Result<bool, 
     Ok(false)
 }
 
+/// Whether a side that serves and takes these bytes, one at a time, is done once its last byte went.
+fn is_done_last<S: Service>(side: &mut Serving<S>, bytes: &[u8]) -> Result<bool, Fail> {
+    for byte in bytes {
+        side.take(&[*byte])?;
+    }
+    tells_last(side, Outcome::Done { code: 0 })
+}
+
 #[test]
 fn serving_is_done_once_its_last_byte_went(rt: HostRuntime) -> Result<(), Fail> {
     let alloc = rt.alloc();
+    let bytes = bytes_of(alloc, &FOUR_BYTES)?;
     let mut side = serving(alloc, builtin(b"split")?, 3, 65_536)?;
-    for byte in &bytes_of(alloc, &FOUR_BYTES)? {
-        side.take(&[*byte])?;
-    }
-    assert!(rt; tells_last(&mut side, Outcome::Done { code: 0 })?);
+    assert!(rt; is_done_last(&mut side, &bytes)?);
     Ok(())
 }

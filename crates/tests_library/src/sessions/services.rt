@@ -3,6 +3,7 @@ ghost use Rattle.std.specs.Prelude.{[], pos};
 
 use crate::services::Greeting;
 use crate::sessions::sides::{HELLO, answered, bytes_of, serving};
+use qrexec_data::Serving;
 use service_gate::{Boxed, Service};
 use std::alloc::Global;
 use std::test::Fail;
@@ -50,6 +51,15 @@ fn keeps_the_first<S: Service>(
     second: &[u8],
 ) -> Result<bool, Fail> {
     let mut side = serving(alloc, service, 3, 1)?;
+    has_only_the_first(&mut side, first, second)
+}
+
+/// The same of this side, which is dropped at one place.
+fn has_only_the_first<S: Service>(
+    side: &mut Serving<S>,
+    first: &[u8],
+    second: &[u8],
+) -> Result<bool, Fail> {
     side.take(first)?;
     Ok(side.take(second).is_err() && side.got() == first)
 }

@@ -91,12 +91,22 @@ pub(crate) fn answered<S: Service>(
     chunk: u32,
     parts: &[&str],
 ) -> Result<String, Fail> {
+    let bytes = bytes_of(alloc, parts)?;
     let mut side = serving(alloc, service, 3, chunk)?;
-    for byte in &bytes_of(alloc, parts)? {
+    answers_of(alloc, &mut side, &bytes)
+}
+
+/// The same of this side, which is dropped at one place.
+fn answers_of<S: Service>(
+    alloc: Global,
+    side: &mut Serving<S>,
+    bytes: &[u8],
+) -> Result<String, Fail> {
+    for byte in bytes {
         side.take(&[*byte])?;
     }
     let mut out = Vec::new(alloc);
-    serving_sends(&mut side, &mut out)?;
+    serving_sends(side, &mut out)?;
     lines_of(alloc, &out)
 }
 
