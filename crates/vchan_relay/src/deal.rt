@@ -65,7 +65,11 @@ fn relay_task<'p>(
     match connected(page, seat) {
         Ok(far) => match Relay::new(alloc, near, far, room) {
             Ok(relay) => Ok(HopTask::Passes(Hop::new(relay))),
-            Err(_) => Err(Memory),
+            Err(refused) => {
+                // In a call: dropped here, each part of both ends would be dropped in this proof.
+                drop(refused);
+                Err(Memory)
+            }
         },
         Err(far) => Ok(HopTask::Over(HopDone::Passed {
             near: retire(near),

@@ -17,6 +17,14 @@ unreachable-requires c =
     let pages = ap (λ (ps : List PageView). length ps) (none_left c.requires.laid.0 c.args.pages.now (subst (AreLaid c.requires.laid.0 c.args.pages.now) none c.requires.laid.1)) in
     omega (arith, pages, c.requires.some)
 
+pub writer_task-requires : goal.writer_task-requires
+writer_task-requires c =
+    (is_next c.requires.laid.0 c.args.pages.now 0 c.index-pages-0.result c.in-Some.first c.next.new.self.rest.items c.args.seats.items c.requires.laid.1 (sym c.into_iter-seats.ensures.rest ∙ c.in-Some.ensures.cases.0) c.index-pages-0.is).laid.client
+
+pub served-near-requires : goal.served-near-requires
+served-near-requires c =
+    (is_next c.requires.laid.0 c.args.pages.now 0 c.index-pages-0.result c.in-Some.first c.next.new.self.rest.items c.args.seats.items c.requires.laid.1 (sym c.into_iter-seats.ensures.rest ∙ c.in-Some.ensures.cases.0) c.index-pages-0.is).laid.server
+
 pub loop-next-init : goal.loop-next-init
 loop-next-init c =
     let words = c.requires.laid.0 in
@@ -41,6 +49,15 @@ loop-next-init c =
 next_page : (c : After-index-pages-index) → IsNext c.loop-next.invariant.laid.0 c.args.pages.now c.loop-next.index c.index-pages-index.result c.in-Some-next.next c.next-in-loop-next.new.self.rest.items
 next_page c = is_next c.loop-next.invariant.laid.0 c.args.pages.now c.loop-next.index c.index-pages-index.result _ _ c.loop-next.next-iterator.rest.items c.loop-next.invariant.laid.1 c.in-Some-next.ensures.steps.0 c.index-pages-index.is
 
+pub relay_task-requires-clause-near : goal.relay_task-requires-clause-near
+relay_task-requires-clause-near c = c.loop-next.invariant.near
+
+pub relay_task-requires-clause-seat : goal.relay_task-requires-clause-seat
+relay_task-requires-clause-seat c = (next_page (goal.at.relay_task-requires-clause-seat c).After-index-pages-index).laid.client
+
+pub relay_task-requires-clause-room : goal.relay_task-requires-clause-room
+relay_task-requires-clause-room c = c.requires.room
+
 pub served-near-requires-in-loop-next : goal.served-near-requires-in-loop-next
 served-near-requires-in-loop-next c = (next_page (goal.at.served-near-requires-in-loop-next c).After-index-pages-index).laid.server
 
@@ -64,6 +81,15 @@ loop-next-preserved c =
           (λ more follow. c.loop-next.invariant.goes_on more (subst (λ (ps : List PageView). FollowOn (length bytes + 1) before ps more) (sym n.cut) follow))
           c.in_ok-push-2.ensures.items c.in_ok-relay_task.ensures h.2;
     }
+
+pub new-requires-clause-open : goal.new-requires-clause-open
+new-requires-clause-open c = c.loop-next.invariant.near.0
+
+pub new-requires-clause-server : goal.new-requires-clause-server
+new-requires-clause-server c = c.loop-next.invariant.near.1
+
+pub new-requires-clause-none : goal.new-requires-clause-none
+new-requires-clause-none c = c.loop-next.invariant.near.2
 
 pub returns : goal.returns
 returns c =
