@@ -33,7 +33,7 @@ use Rattle.broker_task.specs.Lines.{end_of, BrokerEnd, broker_end, heard_by, is_
 use Rattle.broker_task.specs.Moving.{BrokerLine, line_of}
 use Rattle.broker_task.specs.Posting.{EachAt, MayGo, HasPosted, IsPosting}
 use Rattle.broker_task.specs.Given.{retired_end, IsRetiredOf}
-use Rattle.broker_task.specs.Holding.{lines_of, HoldsForExecs, NoneIsLost}
+use Rattle.broker_task.specs.Holding.{lines_of, HoldsForExecs, NoneIsLost, ShutAreDropped}
 use Rattle.broker_task.specs.Rounds.{IsReady, IsSettled}
 use Rattle.broker_task.specs.Standing.{IsAttended, Stands, AreSettled}
 use Rattle.broker_task.proofs.Lists.{at_mapped}
@@ -184,12 +184,18 @@ none_lost_lem hub journal ds p = λ place line at up.
     (subst (λ (w : List Message). IsPermutation (p.said (place + 1) ++ w) (outbox hub journal (place + 1))) (append-nil (messages_in of.0.outbox.letters.items))
     (subst (λ (l : List Message). IsPermutation (p.said (place + 1) ++ (messages_in of.0.outbox.letters.items ++ l)) (outbox hub journal (place + 1))) none h.kept))
 
+-- and one that is dropped is shut
+shut_are_dropped : (hub : Domains) (journal : List Entry) (ds : List Daemon) → IsPosting hub journal ds → ShutAreDropped journal (lines_of ds)
+shut_are_dropped hub journal ds p = λ place line at.
+    let of = at_mapped line_of ds place line at in
+    (p.posted place of.0 of.1).dropped ∙ ap (λ (l : BrokerLine). is_shut (view l.end).state) (sym of.2)
+
 -- what stands of a task that goes on
 pub goes_on : (s : Switchboard) → IsReady s → (EachAt (IsSettled s.broker.hub s.broker.journal (length s.daemons.items)) s.daemons.items → ⊥)
     → (st : Stands s.broker.hub s.broker.journal (map broker_end s.daemons.items)) × (AreSettled s.broker.hub (map (λ x. x.awaited) s.daemons.items) s.broker.journal st.said → ⊥)
-    × NoneIsLost s.broker.hub s.broker.journal st.said (lines_of s.daemons.items) × HoldsForExecs (lines_of s.daemons.items)
+    × NoneIsLost s.broker.hub s.broker.journal st.said (lines_of s.daemons.items) × HoldsForExecs (lines_of s.daemons.items) × ShutAreDropped s.broker.journal (lines_of s.daemons.items)
 unfolding stands
-goes_on s ready unsettled = (stands s ready, (λ all. unsettled (settled_within s ready all)), none_lost_lem s.broker.hub s.broker.journal s.daemons.items ready.posting, ready.holds)
+goes_on s ready unsettled = (stands s ready, (λ all. unsettled (settled_within s ready all)), none_lost_lem s.broker.hub s.broker.journal s.daemons.items ready.posting, ready.holds, shut_are_dropped s.broker.hub s.broker.journal s.daemons.items ready.posting)
 
 -- ---- all ends are given back
 

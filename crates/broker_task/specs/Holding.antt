@@ -7,6 +7,7 @@ use Rattle.qrexec_frame.specs.declared.message.Message.{Message}
 use Rattle.qrexec_frame.specs.declared.message.Message.TheVariants.{Exec, Connect}
 use Rattle.call_broker.specs.declared.decision.Entry.{Entry}
 use Rattle.call_broker.specs.Domains.{Domains}
+use Rattle.call_broker.specs.Journal.{is_dropped}
 use Rattle.task_duties.specs.Broker.Outbox.{outbox}
 use Rattle.broker_task.specs.declared.daemon.Daemon.{Daemon}
 use Rattle.broker_task.specs.Letters.{IsAt, messages_in, connects}
@@ -39,6 +40,10 @@ HoldsForExecs lines = (place : ℕ) (line : BrokerLine) → IsAt lines place lin
 abbrev pub NoneIsLost : Domains → List Entry → (ℕ → List Message) → List BrokerLine → Type 0
 NoneIsLost hub journal said lines = (place : ℕ) (line : BrokerLine) → IsAt lines place line → is_shut (view line.end).state ≡ false
     → IsPermutation (said (place + 1) ++ messages_in line.letters) (outbox hub journal (place + 1))
+
+-- the domains that were dropped are those whose ends are shut
+abbrev pub ShutAreDropped : List Entry → List BrokerLine → Type 0
+ShutAreDropped journal lines = (place : ℕ) (line : BrokerLine) → IsAt lines place line → is_dropped journal (place + 1) ≡ is_shut (view line.end).state
 
 -- ---- while one is let go
 

@@ -122,7 +122,8 @@ impl<'p> BrokerTask<'p> {
     ///
     /// Of each domain that isn't dropped something was heard in the turn, or something said to it; or there was
     /// nothing to hear, and nothing that could be said: all that waits is held, or there was no room. Of no domain
-    /// fewer bytes were heard or said than before, and one that was dropped stays so.
+    /// fewer bytes were heard or said than before, and one that was dropped stays so. Just the ends of those that
+    /// were dropped are shut.
     pub fn turn(self) -> TaskTurn<BrokerTask<'p>, BrokerDone>
         ensures pays { Pays (task_given self.entry) result }
         ensures stands { StandsAfter result }
