@@ -51,15 +51,23 @@ fn spell(alloc: Global, act: &Act, spelled: &mut Vec<u8>) -> Result<(), Memory>
 {
     spelled.clear();
     match act {
-        Act::Hello => encode(&Message::Hello { version: VERSION }, spelled),
+        Act::Hello => {
+            let message = Message::Hello { version: VERSION };
+            let encoded = encode(&message, spelled);
+            // In a call: dropped here, each kind of message would be an exit of its own in the proof.
+            drop(message);
+            encoded
+        }
         Act::Trigger { to, service, count } => put_triggers(alloc, to, service, *count, spelled),
-        Act::Terminate { domain, port } => encode(
-            &Message::Terminated {
+        Act::Terminate { domain, port } => {
+            let message = Message::Terminated {
                 domain: *domain,
                 port: *port,
-            },
-            spelled,
-        ),
+            };
+            let encoded = encode(&message, spelled);
+            drop(message);
+            encoded
+        }
         _ => Ok(()),
     }
 }
@@ -100,7 +108,10 @@ fn put_trigger(
         ident: ident(alloc, number)?,
         service: service.clone()?,
     };
-    encode(&message, out)
+    let encoded = encode(&message, out);
+    // In a call, for the same reason as in `spell`.
+    drop(message);
+    encoded
 }
 
 // The ident of a trigger.
