@@ -12,20 +12,20 @@ loop-place-preserved c = record {
   pages_room = omega arith;
   seats_room = omega arith;
   made = λ starts.
-    let s = c.args.scenario.now in
-    let items = c.args.places.now in
-    let k = c.loop-place.place-index in
-    let page = page_at c.in_ok-page.page in
-    let made = c.in_ok-page.ensures starts in
-    let within : k < length items = omega (arith, c.loop-place-test.true) in
-    let here : get_or items k page.place ≡ page.place = grind (arith, common_steps, made.at, within) in
-    let taken : take (k + 1) items ≡ take k items ++ page.place ∷ [] = take_more items k page.place within ∙ ap (λ p. take k items ++ p ∷ []) here in
-    let pages : map page_at c.push_reserved.new.self.items ≡ map page_at c.loop-place.pages.items ++ page ∷ [] =
-    ap (map page_at) c.push_reserved.ensures.items ∙ map-append page_at c.loop-place.pages.items (c.in_ok-page.page ∷ []) in
-    subst (λ places. IsLaying s places (map page_at c.push_reserved.new.self.items) c.push_reserved-in-loop-place.new.self.items) (sym taken)
-    (subst (λ pages. IsLaying s (take k items ++ page.place ∷ []) pages c.push_reserved-in-loop-place.new.self.items) (sym pages)
-    (subst (λ seats. IsLaying s (take k items ++ page.place ∷ []) (map page_at c.loop-place.pages.items ++ page ∷ []) seats) (sym c.push_reserved-in-loop-place.ensures.items)
-    (lay_more s (take k items) (map page_at c.loop-place.pages.items) c.loop-place.seats.items page c.in_ok-page.seats_of_page made.laid made.seated (c.loop-place.invariant.made starts))));
+      let s = c.args.scenario.now in
+      let items = c.args.places.now in
+      let k = c.loop-place.place-index in
+      let page = page_at c.in_ok-page.page in
+      let made = c.in_ok-page.ensures starts in
+      let within : k < length items = omega (arith, c.loop-place-test.true) in
+      let here : get_or items k page.place ≡ page.place = grind (arith, common_steps, made.at, within) in
+      let taken : take (k + 1) items ≡ take k items ++ page.place ∷ [] = take_more items k page.place within ∙ ap (λ p. take k items ++ p ∷ []) here in
+      let pages : map page_at c.push_reserved.new.self.items ≡ map page_at c.loop-place.pages.items ++ page ∷ [] =
+      ap (map page_at) c.push_reserved.ensures.items ∙ map-append page_at c.loop-place.pages.items (c.in_ok-page.page ∷ []) in
+      subst (λ places. IsLaying s places (map page_at c.push_reserved.new.self.items) c.push_reserved-in-loop-place.new.self.items) (sym taken)
+      (subst (λ pages. IsLaying s (take k items ++ page.place ∷ []) pages c.push_reserved-in-loop-place.new.self.items) (sym pages)
+      (subst (λ seats. IsLaying s (take k items ++ page.place ∷ []) (map page_at c.loop-place.pages.items ++ page ∷ []) seats) (sym c.push_reserved-in-loop-place.ensures.items)
+      (lay_more s (take k items) (map page_at c.loop-place.pages.items) c.loop-place.seats.items page c.in_ok-page.seats_of_page made.laid made.seated (c.loop-place.invariant.made starts))));
 }
 
 pub returns : goal.returns
