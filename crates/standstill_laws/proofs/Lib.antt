@@ -21,3 +21,5 @@ mod TrafficLaws
 mod WorkLaws
 mod KeepingLaws
 mod StretchLaws
+mod MomentLaws
+mod PaceLaws

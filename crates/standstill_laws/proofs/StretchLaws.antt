@@ -50,12 +50,12 @@ stretches_rest_lem many first last (made ∷ turns) (OneIsMade tasks last' made'
 
 -- ---- one session
 
-caller_same : (turned : Turned) (before now : CallerAt) → CallerTurns turned before now → turned ≢ Moved → ((view now.end).got ≡ (view before.end).got) × ((view now.end).sent ≡ (view before.end).sent)
+pub caller_same : (turned : Turned) (before now : CallerAt) → CallerTurns turned before now → turned ≢ Moved → ((view now.end).got ≡ (view before.end).got) × ((view now.end).sent ≡ (view before.end).sent)
 caller_same Moved before now h rests = absurd (rests refl)
 caller_same Quiet before now h rests = (h.0.0, h.0.1)
 caller_same Passed before now h rests = (ap (λ (v : EndView). v.got) h.1.no_event.view_is, ap (λ (v : EndView). v.sent) h.1.no_event.view_is)
 
-serving_same : (turned : Turned) (before now : ServingAt) → ServingTurns turned before now → turned ≢ Moved → ((view now.end).got ≡ (view before.end).got) × ((view now.end).sent ≡ (view before.end).sent)
+pub serving_same : (turned : Turned) (before now : ServingAt) → ServingTurns turned before now → turned ≢ Moved → ((view now.end).got ≡ (view before.end).got) × ((view now.end).sent ≡ (view before.end).sent)
 serving_same Moved before now h rests = absurd (rests refl)
 serving_same Quiet before now h rests = (h.0.0, h.0.1)
 serving_same Passed before now h rests = (ap (λ (v : EndView). v.got) h.1.no_event.view_is, ap (λ (v : EndView). v.sent) h.1.no_event.view_is)
@@ -110,7 +110,7 @@ end_bytes (CallsWith at) side h = (ap (λ (s : Side). s.got) h, ap (λ (s : Side
 end_bytes (ServesWith at) side h = (ap (λ (s : Side). s.got) h, ap (λ (s : Side). s.sent) h)
 end_bytes _ side h = absurd h
 
-end_open : (version : ℕ) (s : Session) (side : Side) → SessionStands version s → IsUndecided s → HasEnd s side → side.state ≡ Open
+pub end_open : (version : ℕ) (s : Session) (side : Side) → SessionStands version s → IsUndecided s → HasEnd s side → side.state ≡ Open
 end_open version (CallsWith at) side stands none h = sym (ap (λ (s : Side). s.state) h) ∙ stands.0.is_open.1
 end_open version (ServesWith at) side stands none h =
     let ends : EndsBy None (view at.end) = subst (λ (o : Option Outcome). EndsBy o (view at.end)) none stands.0.ends in
@@ -127,11 +127,11 @@ open_stays core who tells up = by_retired (side_of core who).retired refl
     by_retired false is = is
 
 -- the two ends at one moment: they are open
-record AreOpen (core : Core) : Type 0 where
-  server : core.server.state ≡ Open
-  client : core.client.state ≡ Open
+pub record AreOpen (core : Core) : Type 0 where
+  pub server : core.server.state ≡ Open
+  pub client : core.client.state ≡ Open
 
-page_rested : (before now : Core) → AreMoments before now → AreOpen before → AreOpen now
+pub page_rested : (before now : Core) → AreMoments before now → AreOpen before → AreOpen now
     → ((length now.server.got ≡ length before.server.got) × (length now.server.sent ≡ length before.server.sent))
     → ((length now.client.got ≡ length before.client.got) × (length now.client.sent ≡ length before.client.sent)) → PageRested before now
 page_rested before now moments old new server client = record { start = moments.start; orders = moments.orders; ends = ends }

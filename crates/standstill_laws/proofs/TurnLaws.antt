@@ -48,7 +48,7 @@ peer_is_shut core Server lawful saw = lawful.lives.server_sight.saw saw
 peer_is_shut core Client lawful saw = lawful.lives.client_sight.saw saw
 
 -- the drain of a quiet turn that is still so
-found_nothing : (core : Core) (who : Role) (still : Type 0) (waiting : List ℕ) (was_shut : Bool) (before now : SeatedEnd) (q : IsQuiet still waiting was_shut before now) → Lawful core
+pub found_nothing : (core : Core) (who : Role) (still : Type 0) (waiting : List ℕ) (was_shut : Bool) (before now : SeatedEnd) (q : IsQuiet still waiting was_shut before now) → Lawful core
     → IsQuietStill core who still waiting was_shut before now q → FoundNothing core who
 found_nothing core who still waiting was_shut before now q lawful h = record {
   begun = standing_of q.found.side;
@@ -62,7 +62,7 @@ found_nothing core who still waiting was_shut before now q lawful h = record {
 }
 
 -- where the page stands still and the peer is open, nothing went since there was nothing to send
-nothing_waits : (core : Core) (who : Role) (still : Type 0) (waiting : List ℕ) (was_shut : Bool) (before now : SeatedEnd) → Lawful core → StandsStill core → (side_of core (peer who)).state ≢ Shut
+pub nothing_waits : (core : Core) (who : Role) (still : Type 0) (waiting : List ℕ) (was_shut : Bool) (before now : SeatedEnd) → Lawful core → StandsStill core → (side_of core (peer who)).state ≢ Shut
     → IsSameEnd before now → now.side ≡ side_of core who → (sends : SendsNone still waiting was_shut before now) → SendsStill core who still waiting was_shut before now sends → still
 nothing_waits core who still waiting was_shut before now lawful page there same is (NothingWaits none kept) h = none
 nothing_waits core who still waiting was_shut before now lawful page there same is (WasShut was saw kept) h =

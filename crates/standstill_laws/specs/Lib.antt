@@ -16,3 +16,5 @@ pub mod Traffic
 pub mod Work
 pub mod Keeping
 pub mod Stretch
+pub mod Moments
+pub mod Pace

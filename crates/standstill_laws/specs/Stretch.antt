@@ -41,9 +41,13 @@ IsUndecided (CallsWith at) = at.caller.replies.outcome ≡ None
 IsUndecided (ServesWith at) = at.serving.answering.outcome ≡ None
 IsUndecided session = Unit {0}
 
--- an agent has this end in its session at this place, whose parts agree and which nothing has decided
+-- it is on this end, its parts agree, and nothing has decided it
+abbrev pub IsOn : ℕ → Session → Side → Type 0
+IsOn version session side = SessionStands version session × IsUndecided session × HasEnd session side
+
+-- an agent has this end in its session at this place
 abbrev pub HoldsEnd : Task → ℕ → Side → Type 0
-HoldsEnd (Agent a) i side = SessionStands a.plan.version (session_at a.sessions i) × IsUndecided (session_at a.sessions i) × HasEnd (session_at a.sessions i) side
+HoldsEnd (Agent a) i side = IsOn a.plan.version (session_at a.sessions i) side
 HoldsEnd task i side = ⊥
 
 -- two moments of one page

@@ -17,6 +17,8 @@ ghost use Rattle.standstill_laws.specs.Bounds.{AgentsSayFew, OutboxesHoldFew, Se
 ghost use Rattle.standstill_laws.specs.Traffic.{AgentsSpeak, ControlMessagesAreFew, ControlBytesAreFew};
 ghost use Rattle.standstill_laws.specs.Work.{SidesSendSo, RunWorkIsBounded, RunTurnsAreBounded};
 ghost use Rattle.standstill_laws.specs.Stretch.{ControlPagesRest, DataPagesRest, StretchesRest};
+ghost use Rattle.standstill_laws.specs.Moments.{MomentsRest};
+ghost use Rattle.standstill_laws.specs.Pace.{NoSessionRests};
 ghost use Rattle.standstill_laws.specs.Order.{EndsComeInOrder, NoneIsEarly, AgentsHearInOrder};
 
 /// If both ends of a page between honest ends drained it and found nothing, and no index changed since, then
@@ -158,6 +160,19 @@ pub fn no_agent_is_left()
 /// whatever else its ends did.
 pub fn findings_stay()
     ensures { FindingsStay }
+{}
+
+/// Where nothing came or went on a page from one moment to another, what was found at a moment between the two, in the
+/// midst of calls too, is so at any other moment between them.
+pub fn moments_rest()
+    ensures { MomentsRest }
+{}
+
+/// The two sides of an open session between honest ends don't both make eight turns in a row in which nothing moved, if
+/// what their calls found in them was so at moments of the page. A side that made so many has an end across from it that
+/// wasn't retired before.
+pub fn no_session_rests()
+    ensures { NoSessionRests }
 {}
 
 /// In a stretch of turns of all tasks that did nothing, each task rests: none of its own turns did anything.
