@@ -23,3 +23,4 @@ mod KeepingLaws
 mod StretchLaws
 mod MomentLaws
 mod PaceLaws
+mod RestingLaws

@@ -18,7 +18,7 @@ use Rattle.vchan_packet.specs.declared.SendAnswer.{SendAnswer}
 use Rattle.vchan_packet.specs.declared.SendAnswer.TheVariants.{Sent, NoRoom, PeerClosed}
 use Rattle.agent_control.specs.Stopping.{FindsLess, AtAnEnd, AtTheLimit, AtATrigger, NothingIsDue, HasLessRoom, DidNotGo}
 use Rattle.broker_task.specs.Moving.{has_not_greeted, all_held, greeting_waits, letter_waits}
-use Rattle.standstill_laws.specs.Page.{IsStanding, IsStillPage, HasNoRoom, HasLess, StandsStill}
+use Rattle.standstill_laws.specs.Page.{IsStanding, IsStillPage, HasNoRoom, HasLess, FoundNoRoom, FoundPeerShut, StandsStill}
 use Rattle.standstill_laws.specs.Saying.{Fits, AnswerStill, FailsStill, LessStill, AgentsHaveSaidAll, BrokerHasSaidAll}
 use Rattle.standstill_laws.proofs.PageLaws.{stands_still, write_order_is}
 
@@ -37,9 +37,9 @@ shut_by e n loads (sent_all last last_is open_then enough is) = cc
 fits_order : (core : Core) (who : Role) (e : Standing) (n count : ℕ) → IsStanding core who e → Fits core who count → n ≤ count → n ≤ size (write_order e)
 fits_order core who e n count stood fits less = subst (λ (o : Order). n ≤ size o) (sym (write_order_is core who e stood)) (omega (arith, fits, less))
 
--- no send of what fits the ring is still failing
-fails_never : (core : Core) → IsStillPage core → (who : Role) (bytes : List ℕ) (before now : SeatedEnd) (f : FailsToSend bytes before now) → ¬ FailsStill core who bytes before now f
-fails_never core p who bytes before now f s = by_answer f.answer f.refused f.cause s.found
+-- no send of what fits the ring is still failing, where none lacks room and no peer is found shut
+pub fails_not : (core : Core) (who : Role) → ¬ FoundNoRoom core who → ¬ FoundPeerShut core who → (bytes : List ℕ) (before now : SeatedEnd) (f : FailsToSend bytes before now) → ¬ FailsStill core who bytes before now f
+fails_not core who room up bytes before now f s = by_answer f.answer f.refused f.cause s.found
   where
     begun : Standing
     begun = standing_of before.side
@@ -51,9 +51,12 @@ fails_never core p who bytes before now f s = by_answer f.answer f.refused f.cau
     by_answer Sent refused cause found = refused refl
     by_answer (NoRoom prod cons) refused cause found =
         let fits : most_asked bytes ≤ size (write_order begun) = fits_order core who begun (most_asked bytes) (length bytes) s.stood s.fits (omega arith) in
-        (page_of core p).has_room who (record { begun = begun; stood = s.stood; loads = loads; prod = prod; cons = cons; lacks = HasNoRoom (most_asked bytes) fits cause; still = found })
-    by_answer PeerClosed refused cause found =
-        there core p who ((page_of core p).is_shut who (record { loads = loads; shut = shut_by begun (most_asked bytes) loads cause; still = found }))
+        room (record { begun = begun; stood = s.stood; loads = loads; prod = prod; cons = cons; lacks = HasNoRoom (most_asked bytes) fits cause; still = found })
+    by_answer PeerClosed refused cause found = up (record { loads = loads; shut = shut_by begun (most_asked bytes) loads cause; still = found })
+
+-- so on a page that stands still
+fails_never : (core : Core) → IsStillPage core → (who : Role) (bytes : List ℕ) (before now : SeatedEnd) (f : FailsToSend bytes before now) → ¬ FailsStill core who bytes before now f
+fails_never core p who bytes before now f = fails_not core who ((page_of core p).has_room who) (λ shut. there core p who ((page_of core p).is_shut who shut)) bytes before now f
 
 less_never : (core : Core) → IsStillPage core → (who : Role) (count : ℕ) (before now : SeatedEnd) (f : FindsLess before now count) → ¬ LessStill core who count before now f
 less_never core p who count before now f s =

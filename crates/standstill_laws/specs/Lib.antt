@@ -18,3 +18,4 @@ pub mod Keeping
 pub mod Stretch
 pub mod Moments
 pub mod Pace
+pub mod Resting

@@ -19,6 +19,7 @@ ghost use Rattle.standstill_laws.specs.Work.{SidesSendSo, RunWorkIsBounded, RunT
 ghost use Rattle.standstill_laws.specs.Stretch.{ControlPagesRest, DataPagesRest, StretchesRest};
 ghost use Rattle.standstill_laws.specs.Moments.{MomentsRest};
 ghost use Rattle.standstill_laws.specs.Pace.{NoSessionRests};
+ghost use Rattle.standstill_laws.specs.Resting.{OutboxesAreEmpty};
 ghost use Rattle.standstill_laws.specs.Order.{EndsComeInOrder, NoneIsEarly, AgentsHearInOrder};
 
 /// If both ends of a page between honest ends drained it and found nothing, and no index changed since, then
@@ -173,6 +174,13 @@ pub fn moments_rest()
 /// wasn't retired before.
 pub fn no_session_rests()
     ensures { NoSessionRests }
+{}
+
+/// Where the broker made two turns in a row that did nothing, while nothing came or went on its control pages and each
+/// agent found nothing there, no letter waits for any domain between the two turns, and each control page stands still:
+/// the broker left no drain out for a full outbox.
+pub fn outboxes_are_empty()
+    ensures { OutboxesAreEmpty }
 {}
 
 /// In a stretch of turns of all tasks that did nothing, each task rests: none of its own turns did anything.
