@@ -24,3 +24,4 @@ mod StretchLaws
 mod MomentLaws
 mod PaceLaws
 mod RestingLaws
+mod LastingLaws

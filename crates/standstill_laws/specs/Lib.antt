@@ -19,3 +19,4 @@ pub mod Stretch
 pub mod Moments
 pub mod Pace
 pub mod Resting
+pub mod Lasting

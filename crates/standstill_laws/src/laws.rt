@@ -20,6 +20,7 @@ ghost use Rattle.standstill_laws.specs.Stretch.{ControlPagesRest, DataPagesRest,
 ghost use Rattle.standstill_laws.specs.Moments.{MomentsRest};
 ghost use Rattle.standstill_laws.specs.Pace.{NoSessionRests};
 ghost use Rattle.standstill_laws.specs.Resting.{OutboxesAreEmpty};
+ghost use Rattle.standstill_laws.specs.Lasting.{NoRunLasts};
 ghost use Rattle.standstill_laws.specs.Order.{EndsComeInOrder, NoneIsEarly, AgentsHearInOrder};
 
 /// If both ends of a page between honest ends drained it and found nothing, and no index changed since, then
@@ -181,6 +182,14 @@ pub fn no_session_rests()
 /// the broker left no drain out for a full outbox.
 pub fn outboxes_are_empty()
     ensures { OutboxesAreEmpty }
+{}
+
+/// No run between honest domains rests for long while its broker goes on: it isn't so that the broker made two turns in
+/// a row that did nothing, and went on after the first, if between the two each agent had made a turn that did nothing in
+/// which it might have asked for a call, and each side of an open session eight; and if what their calls found was so at
+/// moments of their pages, on which nothing came or went.
+pub fn no_run_lasts()
+    ensures { NoRunLasts }
 {}
 
 /// In a stretch of turns of all tasks that did nothing, each task rests: none of its own turns did anything.

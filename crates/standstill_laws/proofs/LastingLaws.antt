@@ -1,0 +1,81 @@
+-- Where all that a run's tasks found in turns that did nothing is put together, the broker is done.
+use Rattle.std.proofs.Common.{◌≡◌, ℕ, ◌+◌, ◌<◌, true, false, List, [], refl, sym, ap, ◌∙◌, subst}
+use Rattle.ring_words.specs.declared.page.Role.TheVariants.{Server}
+use Rattle.vchan_protocol.specs.History.Core.{Core}
+use Rattle.vchan_rule.specs.Seated.{view}
+use Rattle.broker_task.specs.declared.outbox.Letter.{Letter}
+use Rattle.call_broker.specs.Domains.{count_of}
+use Rattle.agent_slots.specs.Sessions.{Session, is_open, session_at}
+use Rattle.broker_task.specs.Given.{BrokerState}
+use Rattle.broker_task.specs.Letters.{IsAt, AreHeld}
+use Rattle.broker_task.specs.Lines.{is_shut}
+use Rattle.broker_task.specs.Moving.{BrokerLine, all_held}
+use Rattle.standstill_laws.specs.Letters.{AreAtRest}
+use Rattle.standstill_laws.specs.Standstill.{IsShut as StaysShut, DomainStandsStill}
+use Rattle.standstill_laws.specs.Lasting.{SessionLasts, IsShut, AsCaller, AsServing, CallsAlone, ServesAlone, DomainLasts, RunLasts, NoRunLasts}
+use Rattle.standstill_laws.proofs.MomentLaws.{moments_rest_lem}
+use Rattle.standstill_laws.proofs.PaceLaws.{no_session_rests_lem}
+use Rattle.standstill_laws.proofs.RestingLaws.{outboxes_are_empty_lem}
+use Rattle.standstill_laws.proofs.StandstillLaws.{runs_do_not_stand_still_lem}
+
+is_shut_now : (s : Session) → SessionLasts s → is_open s ≡ false
+is_shut_now s (IsShut is) = is
+is_shut_now s (AsCaller first last c c' a a' is both) = absurd (no_session_rests_lem.both first last c c' a a' both)
+is_shut_now s (AsServing first last c c' a a' is both) = absurd (no_session_rests_lem.both first last c c' a a' both)
+is_shut_now s (CallsAlone first last n c c' is rests long retired) = absurd (let here : true ≡ false = sym retired ∙ no_session_rests_lem.caller first last n c c' rests long in cc)
+is_shut_now s (ServesAlone first last n a a' is rests long retired) = absurd (let here : true ≡ false = sym retired ∙ no_session_rests_lem.serving first last n a a' rests long in cc)
+
+at_rest : (was now then : BrokerState) → RunLasts was now then → AreAtRest now.lines
+at_rest was now then r place line there up =
+    let l = r.lines place line there in
+    let empty = outboxes_are_empty_lem was.lines now.lines then.lines r.stands.3 (λ p x at. (r.lines p x at).rests) place line there in
+    record {
+      core = l.core;
+      page = empty.1 l.core l.between;
+      greets = l.version;
+      old = line.end;
+      new = line.end;
+      says = all_held l.greeted (subst (λ (letters : List Letter). AreHeld letters) (sym empty.0) tt) refl;
+      still = tt;
+    }
+
+stands_still_so : (was now then : BrokerState) → (r : RunLasts was now then) → (place : ℕ) → DomainLasts was now then r.stands.0.said r.lines place → DomainStandsStill now.hub now.awaited now.journal r.stands.0.said now.lines (at_rest was now then r) place
+unfolding at_rest
+stands_still_so was now then r place d =
+    let l = r.lines place d.line d.there in
+    let a = d.agent in
+    record {
+      line = d.line;
+      there = d.there;
+      up = l.rests.up;
+      port = d.port;
+      port_is = d.port_is;
+      own = d.own;
+      attended = d.attended;
+      heard = d.heard;
+      talks = d.talks;
+      task = d.task;
+      domain = d.domain;
+      count = d.count;
+      agent = record {
+        tells = a.tells;
+        channel = a.channel;
+        channel_is = a.channel_is;
+        up = a.up;
+        end = a.end;
+        differ = a.differ;
+        given = a.given;
+        order = a.order;
+        before = a.before;
+        calls = a.calls;
+        some = a.some;
+        stops = a.stops;
+        still = (moments_rest_lem l.rests.first l.rests.last a.found.0 l.core a.found.1 l.between l.rests.rested).1.stops a.calls a.before a.channel a.stops a.found.2;
+        none_asked = a.none_asked;
+        sessions = λ i. StaysShut (is_shut_now (session_at d.task.sessions i) (a.sessions i));
+      };
+    }
+
+pub no_run_lasts_lem : NoRunLasts
+no_run_lasts_lem was now then r =
+    r.stands.1 (runs_do_not_stand_still_lem now.hub now.awaited now.journal r.stands.0.said now.lines r.stands.0.decided r.grown r.undropped r.stands.3 r.stands.2 (at_rest was now then r) (λ place less. stands_still_so was now then r place (r.domains place less)))
