@@ -25,3 +25,5 @@ mod MomentLaws
 mod PaceLaws
 mod RestingLaws
 mod LastingLaws
+mod IdleLaws
+mod StretchesLaws

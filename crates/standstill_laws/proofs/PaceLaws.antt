@@ -208,7 +208,7 @@ end_goes_on before now rested = record {
 same_end : (s : Side) → EndRested s s
 same_end s = record { got = refl; sent = refl; state = refl; retired = refl }
 
-last_between : (first last : Core) → AreMoments first last → PageRested first last → IsBetween first last last
+pub last_between : (first last : Core) → AreMoments first last → PageRested first last → IsBetween first last last
 last_between first last moments rested = record {
   since = record { moments = moments; ends = λ who. end_goes_on (side_of first who) (side_of last who) (rested.ends who) };
   until = record {

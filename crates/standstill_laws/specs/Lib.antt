@@ -20,3 +20,5 @@ pub mod Moments
 pub mod Pace
 pub mod Resting
 pub mod Lasting
+pub mod Idle
+pub mod Stretches

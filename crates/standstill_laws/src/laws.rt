@@ -21,6 +21,7 @@ ghost use Rattle.standstill_laws.specs.Moments.{MomentsRest};
 ghost use Rattle.standstill_laws.specs.Pace.{NoSessionRests};
 ghost use Rattle.standstill_laws.specs.Resting.{OutboxesAreEmpty};
 ghost use Rattle.standstill_laws.specs.Lasting.{NoRunLasts};
+ghost use Rattle.standstill_laws.specs.Stretches.{NoStretchLasts};
 ghost use Rattle.standstill_laws.specs.Order.{EndsComeInOrder, NoneIsEarly, AgentsHearInOrder};
 
 /// If both ends of a page between honest ends drained it and found nothing, and no index changed since, then
@@ -190,6 +191,13 @@ pub fn outboxes_are_empty()
 /// moments of their pages, on which nothing came or went.
 pub fn no_run_lasts()
     ensures { NoRunLasts }
+{}
+
+/// There is no stretch of turns of all tasks that did nothing, of which one is the broker's and eight are those of each
+/// agent, if the broker goes on after its last one, and its next turn does nothing either. What the calls of these turns
+/// found was so at moments of their pages.
+pub fn no_stretch_lasts()
+    ensures { NoStretchLasts }
 {}
 
 /// In a stretch of turns of all tasks that did nothing, each task rests: none of its own turns did anything.

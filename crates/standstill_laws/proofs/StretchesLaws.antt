@@ -1,0 +1,309 @@
+-- A stretch of turns that did nothing tells all by which a run would be over.
+use Rattle.std.proofs.Common.{◌≡◌, ◌≢◌, ℕ, ◌+◌, ◌<◌, ◌≤◌, Bool, true, false, List, [], length, Option, Some, None, refl, sym, ap, ◌∙◌, subst, arith}
+use Rattle.std.specs.Prelude.{IsSome}
+use Rattle.std.proofs.lemmas.Option.{none-some, same_Some}
+use Rattle.ring_words.specs.declared.page.Role.TheVariants.{Server, Client}
+use Rattle.vchan_protocol.specs.declared.call.EndState.{EndState}
+use Rattle.vchan_protocol.specs.declared.call.EndState.TheVariants.{Open, Shut}
+use Rattle.vchan_protocol.specs.declared.side.Side.{Side}
+use Rattle.vchan_protocol.specs.History.Core.{Core}
+use Rattle.vchan_rule.specs.Seated.{SeatedEnd, view}
+use Rattle.vchan_lifecycle.specs.Lifecycle.{FindsNotYet}
+use Rattle.call_broker.specs.Domains.{count_of}
+use Rattle.agent_slots.specs.Sessions.{Session, CallsWith, ServesWith, session_at}
+use Rattle.agent_control.specs.declared.control.AgentControl.{AgentControl}
+use Rattle.agent_control.specs.Stopping.{Stops}
+use Rattle.agent_task.specs.State.{AgentState}
+use Rattle.task_pool.specs.declared.task.Turn.TheVariants.{Again}
+use Rattle.channel_session.specs.Calling.{CallerAt}
+use Rattle.channel_session.specs.Answering.{ServingAt}
+use Rattle.qrexec_frame.specs.declared.message.Message.{Message}
+use Rattle.std.specs.List.{AllZip as EachPair}
+use Rattle.domain_task.specs.Turning.{AgentTurns}
+use Rattle.agent_task.specs.Moving.{SaysNoMore, HasNotGreeted, WasNotGreeted, HasStopped, TurnsChannel, asked_at_most}
+use Rattle.broker_task.specs.Given.{BrokerState}
+use Rattle.broker_task.specs.Letters.{IsAt}
+use Rattle.broker_task.specs.Lines.{is_shut}
+use Rattle.broker_task.specs.Moving.{BrokerLine}
+use Rattle.domain_task.specs.declared.task.Task.{Task}
+use Rattle.domain_task.specs.declared.task.Task.TheVariants.{Agent, Broker}
+use Rattle.domain_task.specs.Working.{IsStill, ChannelRests, IsUp, WasOver, AgentRests, Rests, DoesNothing}
+use Rattle.standstill_laws.specs.Saying.{StopsStill}
+use Rattle.standstill_laws.specs.Counting.{TurnMade}
+use Rattle.standstill_laws.specs.Keeping.{PageRested}
+use Rattle.standstill_laws.specs.Stretch.{AreMoments, HoldsControl}
+use Rattle.standstill_laws.specs.Moments.{WasSo}
+use Rattle.standstill_laws.specs.Pace.{IsHeld, CallRests, ServingRests, BothRest}
+use Rattle.standstill_laws.specs.Resting.{DrainBetween, LineRests}
+use Rattle.standstill_laws.specs.Idle.{Span, RunPages, HeardFound, ChannelFound, NoMoreFound, SaidFound, AsksNone, AgentFound, LinesFound, IsIdle, AgentIsIdle, BrokerIsIdle}
+use Rattle.standstill_laws.specs.Lasting.{SessionLasts, IsShut as StaysShut, AsCaller as CallsOnPage, AsServing as ServesOnPage, CallsAlone as CallsByItself, ServesAlone as ServesByItself, LineLasts, DomainLasts, RunLasts}
+use Rattle.standstill_laws.specs.Stretches.{turns_of, CallerStays, ServingStays, SessionStays, IsShut, AsCaller, AsServing, CallsAlone, ServesAlone, DomainStays, StretchRests, NoStretchLasts}
+use Rattle.standstill_laws.proofs.StretchLaws.{stretches_rest_lem, control_pages_rest_lem}
+use Rattle.standstill_laws.proofs.PaceLaws.{last_between}
+use Rattle.standstill_laws.proofs.IdleLaws.{idle_nothing, all_nothing, rests_then, LastTurn, last_turn, LastOfAgent, last_of_agent, LastOfBroker, last_of_broker, CallsOn, calls_on, ServesOnTo, serves_on, LineWas, line_was, LineWill, line_will, line_at}
+use Rattle.standstill_laws.proofs.LastingLaws.{no_run_lasts_lem}
+
+same_agent : (a b : AgentState) → Agent a ≡ Agent b → a ≡ b
+same_agent a b e = cc
+
+same_broker : (a b : BrokerState) → Broker a ≡ Broker b → a ≡ b
+same_broker a b e = cc
+
+-- ---- the last turn of an agent
+
+-- its drain
+record DrainOf (span : Span) : Type 0 where
+  began : SeatedEnd
+  heard : SeatedEnd
+  not_yet : FindsNotYet began heard
+  found : DrainBetween span.first span.last Server began heard not_yet
+
+agent_drain : (span : Span) (old new : AgentState) (r : ChannelRests old new) → ChannelFound span old new r → new.over ≡ None → DrainOf span
+agent_drain span old new (IsUp was is still) found up = by old.channel new.channel still found
+  where
+    by : (o n : Option AgentControl) (still : IsStill o n) → HeardFound span o n still → DrainOf span
+    by (Some a) (Some b) still found = record { began = still.nothing.greeted.end; heard = still.heard; not_yet = still.nothing.not_yet; found = found }
+    by (Some a) None still found = absurd still
+    by None (Some b) still found = absurd still
+    by None None still found = absurd still
+agent_drain span old new (WasOver how was is) found up = absurd (none-some how (sym up ∙ is))
+
+-- why it said no more
+record StopsOf (span : Span) (calls : ℕ) (channel : AgentControl) : Type 0 where
+  before : AgentControl
+  stops : Stops calls before channel
+  found : WasSo span.first span.last (λ core. StopsStill core calls before channel stops)
+  none_asked : channel.queue.next ≡ before.queue.next
+
+stops_by : (span : Span) (calls : ℕ) (waiting channel : AgentControl) → (says : SaysNoMore calls waiting channel) → NoMoreFound span calls waiting channel says → channel.queue.next ≡ waiting.queue.next → channel.port.greeted ≡ true → IsSome channel.port.version
+    → StopsOf span calls channel
+stops_by span calls waiting channel (HasNotGreeted unsent kept) found none greeted version = absurd (let bad : false ≡ true = sym unsent ∙ greeted in cc)
+stops_by span calls waiting channel (WasNotGreeted unread kept) found none greeted version = absurd (let nothing : IsSome {T = ℕ} None = subst (λ (o : Option ℕ). IsSome o) unread version in cc nothing)
+stops_by span calls waiting channel (HasStopped says kept stops) found none greeted version = record { before = waiting; stops = stops; found = found; none_asked = none }
+
+abbrev IsReady : Option AgentControl → Type 0
+IsReady (Some c) = (c.port.greeted ≡ true) × IsSome c.port.version
+IsReady None = ⊥
+
+abbrev HasStops : Span → ℕ → Option AgentControl → Type 0
+HasStops span calls (Some c) = StopsOf span calls c
+HasStops span calls None = ⊥
+
+stops_in : (span : Span) (pages : ℕ) (o n : Option AgentControl) (turns : TurnsChannel pages o n) → SaidFound span pages o n turns → AsksNone o n → IsReady n → HasStops span (asked_at_most pages) n
+stops_in span pages (Some old) (Some new) turns found none ready = stops_by span (asked_at_most pages) turns.waiting new turns.says found (none ∙ sym turns.next) ready.0 ready.1
+stops_in span pages (Some old) None turns found none ready = absurd turns
+stops_in span pages None (Some new) turns found none ready = absurd turns
+stops_in span pages None None turns found none ready = absurd turns
+
+agent_stops : (span : Span) (pages : ℕ) (o n : Option AgentControl) (turns : TurnsChannel pages o n) → SaidFound span pages o n turns → AsksNone o n → (channel : AgentControl) → n ≡ Some channel → channel.port.greeted ≡ true → IsSome channel.port.version
+    → StopsOf span (asked_at_most pages) channel
+agent_stops span pages o n turns found none channel is greeted version =
+    let ready : IsReady n = subst IsReady (sym is) (greeted, version) in
+    let stops : HasStops span (asked_at_most pages) (Some channel) = subst (HasStops span (asked_at_most pages)) is (stops_in span pages o n turns found none ready) in
+    stops
+
+-- ---- the turns of a stretch, by what they lead to
+
+record TurnTo (pages : RunPages) (now : BrokerState) : Type 0 where
+  before : BrokerState
+  rests : EachPair Rests before.lines now.lines
+  found : LinesFound pages.control 0 before.lines now.lines rests
+
+record TurnFrom (pages : RunPages) (now then : BrokerState) : Type 0 where
+  rests : EachPair Rests now.lines then.lines
+  found : LinesFound pages.control 0 now.lines then.lines rests
+
+record AgentTurn (pages : RunPages) (place : ℕ) (now : AgentState) : Type 0 where
+  before : AgentState
+  turns : AgentTurns before (Again (Agent now))
+  rests : AgentRests before now
+  found : AgentFound pages place before now turns rests
+
+turn_to : (pages : RunPages) (first now : ℕ → Task) (turns : List TurnMade) (next : TurnMade) → (r : StretchRests pages first now turns next) → TurnTo pages r.broker
+turn_to pages first now turns next r =
+    let last = last_of_broker pages (now 0) (last_turn pages (count_of r.broker.hub + 1) first now turns r.made r.idle 0 r.broker_turned) in
+    subst (λ (b : BrokerState). TurnTo pages b) (same_broker last.now r.broker (sym last.is ∙ r.is)) (record { before = last.before; rests = last.rests; found = last.found })
+
+turn_of : (pages : RunPages) (broker then : BrokerState) (made : TurnMade) → IsIdle pages made → made.place ≡ 0 → made.before ≡ Broker broker → made.now ≡ Broker then → TurnFrom pages broker then
+turn_of pages broker then made (AgentIsIdle at before now turns works rests found) placed was is = absurd (omega (arith, placed))
+turn_of pages broker then made (BrokerIsIdle before now turns works rests found) placed was is =
+    subst (λ (b : BrokerState). TurnFrom pages b then) (same_broker before broker was) (subst (λ (b : BrokerState). TurnFrom pages before b) (same_broker now then is) (record { rests = rests; found = found }))
+
+turn_from : (pages : RunPages) (first now : ℕ → Task) (turns : List TurnMade) (next : TurnMade) → (r : StretchRests pages first now turns next) → TurnFrom pages r.broker r.then
+turn_from pages first now turns next r = turn_of pages r.broker r.then next r.next_idle r.next_place r.next_before r.then_is
+
+agent_turn : (pages : RunPages) (first now : ℕ → Task) (turns : List TurnMade) (next : TurnMade) → StretchRests pages first now turns next → (place : ℕ) (task : AgentState) → 0 < turns_of (place + 1) turns → now (place + 1) ≡ Agent task → AgentTurn pages place task
+agent_turn pages first now turns next r place task some is =
+    let last = last_of_agent pages place (now (place + 1)) (last_turn pages (count_of r.broker.hub + 1) first now turns r.made r.idle (place + 1) some) in
+    subst (λ (a : AgentState). AgentTurn pages place a) (same_agent last.now task (sym last.is ∙ is)) (record { before = last.before; turns = last.turns; rests = last.rests; found = last.found })
+
+-- ---- a session
+
+call_rests : (span : Span) (n : ℕ) (old new : Session) (from to : CallerAt) → CallsOn span n old new → old ≡ CallsWith from → new ≡ CallsWith to → CallRests span.first span.last n from to
+call_rests span n old new from to on was is =
+    let one : on.from ≡ from = let e : CallsWith on.from ≡ CallsWith from = sym on.was ∙ was in cc in
+    let two : on.to ≡ to = let e : CallsWith on.to ≡ CallsWith to = sym on.is ∙ is in cc in
+    subst (λ (at : CallerAt). CallRests span.first span.last n from at) two (subst (λ (at : CallerAt). CallRests span.first span.last n at on.to) one on.rests)
+
+serve_rests : (span : Span) (n : ℕ) (old new : Session) (from to : ServingAt) → ServesOnTo span n old new → old ≡ ServesWith from → new ≡ ServesWith to → ServingRests span.first span.last n from to
+serve_rests span n old new from to on was is =
+    let one : on.from ≡ from = let e : ServesWith on.from ≡ ServesWith from = sym on.was ∙ was in cc in
+    let two : on.to ≡ to = let e : ServesWith on.to ≡ ServesWith to = sym on.is ∙ is in cc in
+    subst (λ (at : ServingAt). ServingRests span.first span.last n from at) two (subst (λ (at : ServingAt). ServingRests span.first span.last n at on.to) one on.rests)
+
+calls_so : (pages : RunPages) (first now : ℕ → Task) (turns : List TurnMade) (next : TurnMade) → StretchRests pages first now turns next → (span : Span) (place i : ℕ) → pages.session place i ≡ span → (c : CallerStays span first now place i)
+    → CallRests span.first span.last (turns_of (place + 1) turns) c.from c.to
+calls_so pages first now turns next r span place i same c =
+    let on = calls_on pages place i (count_of r.broker.hub + 1) first now turns r.made r.idle c.old c.new c.was c.is c.tells c.from c.was_so in
+    call_rests span (turns_of (place + 1) turns) (session_at c.old.sessions i) (session_at c.new.sessions i) c.from c.to
+    (subst (λ (p : Span). CallsOn p (turns_of (place + 1) turns) (session_at c.old.sessions i) (session_at c.new.sessions i)) same on) c.was_so c.is_so
+
+serves_so : (pages : RunPages) (first now : ℕ → Task) (turns : List TurnMade) (next : TurnMade) → StretchRests pages first now turns next → (span : Span) (place i : ℕ) → pages.session place i ≡ span → (s : ServingStays span first now place i)
+    → ServingRests span.first span.last (turns_of (place + 1) turns) s.from s.to
+serves_so pages first now turns next r span place i same s =
+    let on = serves_on pages place i (count_of r.broker.hub + 1) first now turns r.made r.idle s.old s.new s.was s.is s.tells s.from s.was_so in
+    serve_rests span (turns_of (place + 1) turns) (session_at s.old.sessions i) (session_at s.new.sessions i) s.from s.to
+    (subst (λ (p : Span). ServesOnTo p (turns_of (place + 1) turns) (session_at s.old.sessions i) (session_at s.new.sessions i)) same on) s.was_so s.is_so
+
+both_so : (pages : RunPages) (first now : ℕ → Task) (turns : List TurnMade) (next : TurnMade) → StretchRests pages first now turns next → (span : Span) (place i peer j : ℕ) → pages.session place i ≡ span → pages.session peer j ≡ span
+    → 8 ≤ turns_of (place + 1) turns → 8 ≤ turns_of (peer + 1) turns → AreMoments span.first span.last → (c : CallerStays span first now place i) (s : ServingStays span first now peer j) → BothRest span.first span.last c.from c.to s.from s.to
+both_so pages first now turns next r span place i peer j mine yours long long' moments c s = record {
+  moments = moments;
+  caller_turns = turns_of (place + 1) turns;
+  serving_turns = turns_of (peer + 1) turns;
+  calls = calls_so pages first now turns next r span place i mine c;
+  serves = serves_so pages first now turns next r span peer j yours s;
+  calls_long = long;
+  serves_long = long';
+  caller_first = c.was_held;
+  caller_last = c.is_held;
+  serving_first = s.was_held;
+  serving_last = s.is_held;
+}
+
+session_lasts : (pages : RunPages) (first now : ℕ → Task) (turns : List TurnMade) (next : TurnMade) → (r : StretchRests pages first now turns next) → (place i : ℕ) (task : AgentState) → place < count_of r.broker.hub → now (place + 1) ≡ Agent task
+    → SessionStays pages first now (count_of r.broker.hub) place i (session_at task.sessions i) → SessionLasts (session_at task.sessions i)
+session_lasts pages first now turns next r place i task less is (IsShut shut) = StaysShut shut
+session_lasts pages first now turns next r place i task less is (AsCaller peer j below same moments c s) =
+    let one : task ≡ c.new = same_agent task c.new (sym is ∙ c.is) in
+    CallsOnPage (pages.session place i).first (pages.session place i).last c.from c.to s.from s.to (ap (λ (a : AgentState). session_at a.sessions i) one ∙ c.is_so)
+    (both_so pages first now turns next r (pages.session place i) place i peer j refl same (r.agents_turned place less) (r.agents_turned peer below) moments c s)
+session_lasts pages first now turns next r place i task less is (AsServing peer j below same moments c s) =
+    let one : task ≡ s.new = same_agent task s.new (sym is ∙ s.is) in
+    ServesOnPage (pages.session place i).first (pages.session place i).last c.from c.to s.from s.to (ap (λ (a : AgentState). session_at a.sessions i) one ∙ s.is_so)
+    (both_so pages first now turns next r (pages.session place i) peer j place i same refl (r.agents_turned peer below) (r.agents_turned place less) moments c s)
+session_lasts pages first now turns next r place i task less is (CallsAlone c retired) =
+    let one : task ≡ c.new = same_agent task c.new (sym is ∙ c.is) in
+    CallsByItself (pages.session place i).first (pages.session place i).last (turns_of (place + 1) turns) c.from c.to (ap (λ (a : AgentState). session_at a.sessions i) one ∙ c.is_so)
+    (calls_so pages first now turns next r (pages.session place i) place i refl c) (r.agents_turned place less) retired
+session_lasts pages first now turns next r place i task less is (ServesAlone s retired) =
+    let one : task ≡ s.new = same_agent task s.new (sym is ∙ s.is) in
+    ServesByItself (pages.session place i).first (pages.session place i).last (turns_of (place + 1) turns) s.from s.to (ap (λ (a : AgentState). session_at a.sessions i) one ∙ s.is_so)
+    (serves_so pages first now turns next r (pages.session place i) place i refl s) (r.agents_turned place less) retired
+
+-- ---- a domain
+
+control_rested : (pages : RunPages) (first now : ℕ → Task) (turns : List TurnMade) (next : TurnMade) → (r : StretchRests pages first now turns next) → (place : ℕ) (line : BrokerLine) → DomainStays pages first now r.broker r.then next.now r.stands.0.said place line
+    → PageRested (pages.control place).first (pages.control place).last
+control_rested pages first now turns next r place line d =
+    let many = count_of r.broker.hub + 1 in
+    let each = all_nothing pages turns r.idle in
+    let nothing = subst (λ (t : Task). DoesNothing t next.now) (r.next_before ∙ sym r.is) (idle_nothing pages next r.next_idle) in
+    control_pages_rest_lem (pages.control place).first (pages.control place).last (first (place + 1)) (now (place + 1)) (first 0) next.now place d.moments (stretches_rest_lem many first now turns r.made each (place + 1))
+    (rests_then (first 0) (now 0) next.now (stretches_rest_lem many first now turns r.made each 0) nothing) d.begins_open d.agent_first d.broker_first d.agent_last d.broker_last
+
+-- the agent of a control page at the last moment
+agent_holds : (pages : RunPages) (first now : ℕ → Task) (broker then : BrokerState) (next : Task) (said : ℕ → List Message) (place : ℕ) (line : BrokerLine) → (d : DomainStays pages first now broker then next said place line) → HoldsControl (Agent d.task) (pages.control place).last.server
+agent_holds pages first now broker then next said place line d = subst (λ (t : Task). HoldsControl t (pages.control place).last.server) d.task_is d.agent_last
+
+not_shut : (state : EndState) → state ≡ Open → state ≢ Shut
+not_shut state up is = let bad : Open ≡ Shut = sym up ∙ is in cc
+
+within : (pages : RunPages) (first now : ℕ → Task) (turns : List TurnMade) (next : TurnMade) → (r : StretchRests pages first now turns next) → (place : ℕ) (line : BrokerLine) → IsAt r.broker.lines place line → place < count_of r.broker.hub
+within pages first now turns next r place line there = omega (arith, there.within, r.lines)
+
+line_lasts : (pages : RunPages) (first now : ℕ → Task) (turns : List TurnMade) (next : TurnMade) → (r : StretchRests pages first now turns next) → (place : ℕ) (line : BrokerLine) → IsAt r.broker.lines place line
+    → LineLasts (turn_to pages first now turns next r).before.lines r.then.lines place line
+line_lasts pages first now turns next r place line there =
+    let d = r.domains place line there in
+    let to = turn_to pages first now turns next r in
+    let from = turn_from pages first now turns next r in
+    let was = line_was pages.control to.before.lines r.broker.lines to.rests to.found place line there in
+    let will = line_will pages.control r.broker.lines r.then.lines from.rests from.found place line there in
+    let rested = control_rested pages first now turns next r place line d in
+    let holds = agent_holds pages first now r.broker r.then next.now r.stands.0.said place line d in
+    let turned = agent_turn pages first now turns next r place d.task (omega (arith, r.agents_turned place (within pages first now turns next r place line there))) d.task_is in
+    let drain = agent_drain (pages.control place) turned.before d.task turned.rests.channel turned.found.heard holds.0 in
+    let new_up : is_shut (view will.new.end).state ≡ false = will.rests.shut ∙ d.up in
+    record {
+      rests = record {
+        old = was.old;
+        was = was.there;
+        new = will.new;
+        is = will.there;
+        up = d.up;
+        greets = d.greets will.new will.there;
+        turn = was.rests.quiet d.up;
+        next = will.rests.quiet new_up;
+        first = (pages.control place).first;
+        last = (pages.control place).last;
+        to_last = last_between (pages.control place).first (pages.control place).last d.moments rested;
+        rested = rested;
+        server_up = not_shut (pages.control place).last.server.state holds.2;
+        client_up = not_shut (pages.control place).last.client.state ((rested.ends Client).state ∙ d.begins_open);
+        turn_found = was.found d.up;
+        next_found = will.found new_up;
+        began = drain.began;
+        heard = drain.heard;
+        not_yet = drain.not_yet;
+        agent_found = drain.found;
+      };
+      core = d.core;
+      between = d.between;
+      greeted = d.greeted;
+      version = d.version;
+    }
+
+domain_lasts : (pages : RunPages) (first now : ℕ → Task) (turns : List TurnMade) (next : TurnMade) → (r : StretchRests pages first now turns next) → (place : ℕ) → place < count_of r.broker.hub
+    → DomainLasts (turn_to pages first now turns next r).before r.broker r.then r.stands.0.said (line_lasts pages first now turns next r) place
+unfolding line_lasts
+domain_lasts pages first now turns next r place less =
+    let l = line_at r.broker.lines place (omega (arith, less, r.lines)) in
+    let d = r.domains place l.0 l.1 in
+    let holds = agent_holds pages first now r.broker r.then next.now r.stands.0.said place l.0 d in
+    let turned = agent_turn pages first now turns next r place d.task (omega (arith, r.agents_turned place less)) d.task_is in
+    let stops = agent_stops (pages.control place) d.task.pages turned.before.channel d.task.channel (turned.turns.1.2 holds.0) (turned.found.said holds.0) turned.found.asks_none d.channel d.channel_is d.agent_greeted d.agent_version in
+    record {
+      line = l.0;
+      there = l.1;
+      port = d.port;
+      port_is = d.port_is;
+      own = d.own;
+      attended = d.attended;
+      heard = d.heard;
+      talks = d.talks;
+      task = d.task;
+      domain = d.domain;
+      count = d.count;
+      agent = record {
+        tells = d.tells;
+        channel = d.channel;
+        channel_is = d.channel_is;
+        up = holds.0;
+        end = d.end;
+        differ = d.differ;
+        given = d.given;
+        order = d.order;
+        before = stops.before;
+        calls = asked_at_most d.task.pages;
+        some = d.may_ask;
+        stops = stops.stops;
+        found = stops.found;
+        none_asked = stops.none_asked;
+        sessions = λ i. session_lasts pages first now turns next r place i d.task less d.task_is (d.sessions i);
+      };
+    }
+
+pub no_stretch_lasts_lem : NoStretchLasts
+no_stretch_lasts_lem pages first now turns next r =
+    no_run_lasts_lem (turn_to pages first now turns next r).before r.broker r.then (record { stands = r.stands; grown = r.grown; undropped = r.undropped; lines = line_lasts pages first now turns next r; domains = domain_lasts pages first now turns next r })

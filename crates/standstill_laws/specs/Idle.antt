@@ -1,0 +1,108 @@
+-- A turn of a run's task that did nothing, each of whose calls found what was so at a moment of its page.
+-- Source: this project's own.
+use Rattle.std.specs.Prelude.{◌≡◌, ℕ, zero, suc, ◌+◌, false, List, [], ◌∷◌, Option, Some, None}
+use Rattle.std.specs.List.{AllZip as EachPair}
+use Rattle.ring_words.specs.declared.page.Role.TheVariants.{Server, Client}
+use Rattle.vchan_protocol.specs.History.Core.{Core}
+use Rattle.vchan_rule.specs.Seated.{view}
+use Rattle.task_pool.specs.declared.task.Turn.TheVariants.{Again}
+use Rattle.channel_session.specs.declared.pause.Turned.{Turned}
+use Rattle.channel_session.specs.declared.pause.Turned.TheVariants.{Moved, Quiet, Passed}
+use Rattle.channel_session.specs.Calling.{CallerAt, CallerTurns}
+use Rattle.channel_session.specs.Answering.{ServingAt, ServingTurns}
+use Rattle.agent_slots.specs.Sessions.{Session, session_at}
+use Rattle.agent_control.specs.declared.control.AgentControl.{AgentControl}
+use Rattle.agent_task.specs.State.{AgentState}
+use Rattle.agent_task.specs.Moving.{SaysNoMore, HasNotGreeted, WasNotGreeted, HasStopped, TurnsChannel, asked_at_most}
+use Rattle.broker_task.specs.Given.{BrokerState}
+use Rattle.broker_task.specs.Lines.{is_shut}
+use Rattle.broker_task.specs.Moving.{BrokerLine}
+use Rattle.domain_task.specs.declared.task.Task.TheVariants.{Agent, Broker}
+use Rattle.domain_task.specs.Turning.{AgentTurns, BrokerTurns}
+use Rattle.domain_task.specs.Working.{IsStill, ChannelRests, IsUp, WasOver, SessionRests, CallerRests, ServingRests, PageAwaited, HasNotBegun, HadEnded, AgentRests, Rests, Works}
+use Rattle.standstill_laws.specs.Saying.{StopsStill}
+use Rattle.standstill_laws.specs.Counting.{TurnMade}
+use Rattle.standstill_laws.specs.Moments.{WasSo}
+use Rattle.standstill_laws.specs.Pace.{IsQuietBetween}
+use Rattle.standstill_laws.specs.Resting.{DrainBetween, LineBetween}
+
+-- ---- the pages
+
+-- two moments of a page
+pub record Span : Type 0 where
+  pub first : Core
+  pub last : Core
+
+-- those of a run: the control page of the domain behind each place, and the page of each of its agent's sessions
+pub record RunPages : Type 0 where
+  pub control : ℕ → Span
+  pub session : ℕ → ℕ → Span
+
+-- ---- an agent
+
+-- a caller is on the server's end
+abbrev pub CallFound : Span → (turned : Turned) → (before now : CallerAt) → CallerTurns turned before now → Type 0
+CallFound span Moved before now turn = Unit {0}
+CallFound span Quiet before now turn = IsQuietBetween span.first span.last Server _ _ _ _ _ turn.2
+CallFound span Passed before now turn = Unit {0}
+
+abbrev pub ServingFound : Span → (turned : Turned) → (before now : ServingAt) → ServingTurns turned before now → Type 0
+ServingFound span Moved before now turn = Unit {0}
+ServingFound span Quiet before now turn = IsQuietBetween span.first span.last Client _ _ _ _ _ turn.2
+ServingFound span Passed before now turn = Unit {0}
+
+abbrev pub SessionFound : Span → (old new : Session) → SessionRests old new → Type 0
+SessionFound span old new (CallerRests before now turned was is turn did) = CallFound span turned before now turn
+SessionFound span old new (ServingRests before now turned was is turn did) = ServingFound span turned before now turn
+SessionFound span old new (PageAwaited was is) = Unit {0}
+SessionFound span old new (HasNotBegun was is) = Unit {0}
+SessionFound span old new (HadEnded end was is) = Unit {0}
+
+-- its drain, while its channel is up
+abbrev pub HeardFound : Span → (old new : Option AgentControl) → IsStill old new → Type 0
+HeardFound span (Some old) (Some new) still = DrainBetween span.first span.last Server still.nothing.greeted.end still.heard still.nothing.not_yet
+HeardFound span _ _ still = Unit {0}
+
+abbrev pub ChannelFound : Span → (old new : AgentState) → ChannelRests old new → Type 0
+ChannelFound span old new (IsUp was is still) = HeardFound span old.channel new.channel still
+ChannelFound span old new (WasOver how was is) = Unit {0}
+
+-- and why it said no more
+abbrev pub NoMoreFound : Span → (calls : ℕ) → (old new : AgentControl) → SaysNoMore calls old new → Type 0
+NoMoreFound span calls old new (HasNotGreeted none same) = Unit {0}
+NoMoreFound span calls old new (WasNotGreeted none same) = Unit {0}
+NoMoreFound span calls old new (HasStopped says kept stops) = WasSo span.first span.last (λ core. StopsStill core calls old new stops)
+
+abbrev pub SaidFound : Span → (pages : ℕ) → (old new : Option AgentControl) → TurnsChannel pages old new → Type 0
+SaidFound span pages (Some old) (Some new) turns = NoMoreFound span (asked_at_most pages) turns.waiting new turns.says
+SaidFound span pages _ _ turns = Unit {0}
+
+-- it asked for no call
+abbrev pub AsksNone : Option AgentControl → Option AgentControl → Type 0
+AsksNone (Some old) (Some new) = new.queue.next ≡ old.queue.next
+AsksNone _ _ = Unit {0}
+
+-- by what its contract says of the turn
+pub record AgentFound (pages : RunPages) (place : ℕ) (before now : AgentState) (turns : AgentTurns before (Again (Agent now))) (rests : AgentRests before now) : Type 0 where
+  pub heard : ChannelFound (pages.control place) before now rests.channel
+  pub said : (up : now.over ≡ None) → SaidFound (pages.control place) now.pages before.channel now.channel (turns.1.2 up)
+  pub asks_none : AsksNone before.channel now.channel
+  pub sessions : (i : ℕ) → SessionFound (pages.session place i) (session_at before.sessions i) (session_at now.sessions i) (rests.sessions i)
+
+-- ---- the broker
+
+abbrev pub LineFound : Span → (old new : BrokerLine) → Rests old new → Type 0
+LineFound span old new rests = (up : is_shut (view new.end).state ≡ false) → LineBetween span.first span.last old new (rests.quiet up)
+
+-- of each domain, from the one behind this place on
+abbrev pub LinesFound : (ℕ → Span) → ℕ → (old new : List BrokerLine) → EachPair Rests old new → Type 0
+LinesFound spans place (x ∷ old) (y ∷ new) each = LineFound (spans place) x y each.0 × LinesFound spans (place + 1) old new each.1
+LinesFound spans place _ _ each = Unit {0}
+
+-- ---- any honest task: the broker is the first one, and behind it come the agents
+
+pub data IsIdle (pages : RunPages) : TurnMade → Type 0 where
+  AgentIsIdle : (place : ℕ) (before now : AgentState) (turns : AgentTurns before (Again (Agent now))) (works : Works (Agent before) (Again (Agent now))) (rests : AgentRests before now) → AgentFound pages place before now turns rests
+      → IsIdle pages (record { place = place + 1; before = Agent before; now = Agent now; turns = turns; works = works })
+  BrokerIsIdle : (before now : BrokerState) (turns : BrokerTurns before (Again (Broker now))) (works : Works (Broker before) (Again (Broker now))) (rests : EachPair Rests before.lines now.lines) → LinesFound pages.control 0 before.lines now.lines rests
+      → IsIdle pages (record { place = 0; before = Broker before; now = Broker now; turns = turns; works = works })

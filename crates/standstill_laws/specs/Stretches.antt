@@ -1,0 +1,153 @@
+-- How many turns in a row of a run between honest domains may all do nothing while its broker goes on.
+-- Source: this project's own.
+use Rattle.std.specs.Prelude.{◌≡◌, ℕ, ◌+◌, ◌<◌, ◌≤◌, ◌==◌, true, false, List, length, map, Some, IsSome}
+use Rattle.std.specs.List.{count_by, AllByRecursion as Each}
+use Rattle.list_laws.specs.Lists.{AreDifferent}
+use Rattle.ring_words.specs.declared.page.Role.TheVariants.{Client}
+use Rattle.vchan_protocol.specs.declared.call.EndState.TheVariants.{Open}
+use Rattle.vchan_protocol.specs.History.Core.{Core}
+use Rattle.vchan_rule.specs.Seated.{view}
+use Rattle.qrexec_frame.specs.declared.message.Message.{Message}
+use Rattle.call_broker.specs.Domains.{count_of}
+use Rattle.call_broker.specs.Journal.{is_dropped}
+use Rattle.task_duties.specs.Words.{ident_of}
+use Rattle.task_duties.specs.Broker.Owes.{broker_version, awaited_of}
+use Rattle.task_duties.specs.declared.turn.TaskTurn.TheVariants as own
+use Rattle.task_duties.proofs.ServedLaw.{IsUnusedBy}
+use Rattle.control_port.specs.Port.{PortState}
+use Rattle.control_port.specs.declared.talk.Talker.TheVariants.{Broker as OfBroker}
+use Rattle.channel_session.specs.Calling.{CallerAt}
+use Rattle.channel_session.specs.Answering.{ServingAt}
+use Rattle.agent_slots.specs.Sessions.{Session, CallsWith, ServesWith, is_open, session_at}
+use Rattle.agent_control.specs.declared.control.AgentControl.{AgentControl}
+use Rattle.agent_task.specs.State.{AgentState, TellsSoFar}
+use Rattle.agent_task.specs.Moving.{asked_at_most}
+use Rattle.broker_task.specs.Given.{BrokerState}
+use Rattle.broker_task.specs.Letters.{IsAt}
+use Rattle.broker_task.specs.Lines.{is_shut}
+use Rattle.broker_task.specs.Moving.{BrokerLine}
+use Rattle.broker_task.specs.Standing.{IsAttended}
+use Rattle.broker_task.specs.Turns.{StandsAfter}
+use Rattle.domain_task.specs.declared.task.Task.{Task}
+use Rattle.domain_task.specs.declared.task.Task.TheVariants.{Agent, Broker}
+use Rattle.standstill_laws.specs.Control.{Talks}
+use Rattle.standstill_laws.specs.Letters.{IsPortOf}
+use Rattle.standstill_laws.specs.Asking.{heard_so_far}
+use Rattle.standstill_laws.specs.Order.{HasGrown, AreSentInOrder}
+use Rattle.standstill_laws.specs.Counting.{TurnMade, AreMade}
+use Rattle.standstill_laws.specs.Stretch.{AreMoments, HoldsControl, HoldsLine}
+use Rattle.standstill_laws.specs.Moments.{IsBetween}
+use Rattle.standstill_laws.specs.Pace.{IsHeld}
+use Rattle.standstill_laws.specs.Idle.{Span, RunPages, IsIdle}
+
+-- how many of the turns are those of the task at this place
+abbrev pub turns_of : ℕ → List TurnMade → ℕ
+turns_of place turns = count_by (λ made. place == made.place) turns
+
+-- ---- a session
+
+-- the agent of a domain at both ends of a stretch, and its session at this place: a caller on the server's end of its page
+pub record CallerStays (span : Span) (first now : ℕ → Task) (place i : ℕ) : Type 0 where
+  pub old : AgentState
+  pub new : AgentState
+  pub was : first (place + 1) ≡ Agent old
+  pub is : now (place + 1) ≡ Agent new
+  pub tells : TellsSoFar old
+  pub from : CallerAt
+  pub to : CallerAt
+  pub was_so : session_at old.sessions i ≡ CallsWith from
+  pub is_so : session_at new.sessions i ≡ CallsWith to
+  pub was_held : IsHeld (CallsWith from) span.first.server
+  pub is_held : IsHeld (CallsWith to) span.last.server
+
+-- or a side that serves, on the client's end
+pub record ServingStays (span : Span) (first now : ℕ → Task) (place i : ℕ) : Type 0 where
+  pub old : AgentState
+  pub new : AgentState
+  pub was : first (place + 1) ≡ Agent old
+  pub is : now (place + 1) ≡ Agent new
+  pub tells : TellsSoFar old
+  pub from : ServingAt
+  pub to : ServingAt
+  pub was_so : session_at old.sessions i ≡ ServesWith from
+  pub is_so : session_at new.sessions i ≡ ServesWith to
+  pub was_held : IsHeld (ServesWith from) span.first.client
+  pub is_held : IsHeld (ServesWith to) span.last.client
+
+-- a session of one of so many agents isn't open; or it is a side of a session between two of them, on one page; or the end across from it was retired before
+pub data SessionStays (pages : RunPages) (first now : ℕ → Task) (count place i : ℕ) (s : Session) : Type 0 where
+  IsShut : is_open s ≡ false → SessionStays pages first now count place i s
+  AsCaller : (peer j : ℕ) → peer < count → pages.session peer j ≡ pages.session place i → AreMoments (pages.session place i).first (pages.session place i).last
+      → CallerStays (pages.session place i) first now place i → ServingStays (pages.session place i) first now peer j → SessionStays pages first now count place i s
+  AsServing : (peer j : ℕ) → peer < count → pages.session peer j ≡ pages.session place i → AreMoments (pages.session place i).first (pages.session place i).last
+      → CallerStays (pages.session place i) first now peer j → ServingStays (pages.session place i) first now place i → SessionStays pages first now count place i s
+  CallsAlone : CallerStays (pages.session place i) first now place i → (pages.session place i).first.client.retired ≡ true → SessionStays pages first now count place i s
+  ServesAlone : ServingStays (pages.session place i) first now place i → (pages.session place i).first.server.retired ≡ true → SessionStays pages first now count place i s
+
+-- ---- a domain
+
+-- the domain behind this place, of which the broker keeps this between its last turn of the stretch and its next one, after which it is `then`
+pub record DomainStays (pages : RunPages) (first now : ℕ → Task) (broker then : BrokerState) (next : Task) (said : ℕ → List Message) (place : ℕ) (line : BrokerLine) : Type 0 where
+  -- the ends of its control page at the first moment and at the last, and at the moment between the broker's two turns
+  pub moments : AreMoments (pages.control place).first (pages.control place).last
+  pub begins_open : (pages.control place).first.client.state ≡ Open
+  pub agent_first : HoldsControl (first (place + 1)) (pages.control place).first.server
+  pub broker_first : HoldsLine (first 0) place (pages.control place).first.client
+  pub agent_last : HoldsControl (now (place + 1)) (pages.control place).last.server
+  pub broker_last : HoldsLine next place (pages.control place).last.client
+  pub core : Core
+  pub between : IsBetween (pages.control place).first (pages.control place).last core
+  -- it isn't dropped, and both have greeted
+  pub up : is_shut (view line.end).state ≡ false
+  pub greeted : line.greeted ≡ true
+  pub version : IsSome line.version
+  pub greets : (new : BrokerLine) → IsAt then.lines place new → IsSome new.version
+  -- the port of what the broker keeps
+  pub port : PortState
+  pub port_is : IsPortOf line port
+  pub own : port.own ≡ broker_version
+  pub attended : IsAttended broker.hub broker.journal said (place + 1) (record { view = view port.end; gone = port.end.side.notes.gone })
+  pub heard : List Message
+  pub talks : Talks core Client OfBroker port (said (place + 1)) heard
+  -- its agent, which might ask for a call
+  pub task : AgentState
+  pub task_is : now (place + 1) ≡ Agent task
+  pub domain : task.plan.domain ≡ place + 1
+  pub count : length task.plan.calls ≡ awaited_of broker.awaited (place + 1)
+  pub tells : TellsSoFar task
+  pub channel : AgentControl
+  pub channel_is : task.channel ≡ Some channel
+  pub end : channel.port.end.side ≡ core.server
+  pub agent_greeted : channel.port.greeted ≡ true
+  pub agent_version : IsSome channel.port.version
+  pub may_ask : 0 < asked_at_most task.pages
+  pub differ : AreDifferent (map (λ call. ident_of call.number) task.plan.calls)
+  pub given : Each (IsUnusedBy task.plan.domain task.plan.places) (heard_so_far task)
+  pub order : AreSentInOrder broker.hub broker.journal task.plan.domain tells.once.said
+  pub sessions : (i : ℕ) → SessionStays pages first now (count_of broker.hub) place i (session_at task.sessions i)
+
+-- ---- a stretch
+
+-- turns that all did nothing, of which one was the broker's and eight were those of each agent, and after them one more of the broker's
+pub record StretchRests (pages : RunPages) (first now : ℕ → Task) (turns : List TurnMade) (next : TurnMade) : Type 0 where
+  pub broker : BrokerState
+  pub is : now 0 ≡ Broker broker
+  pub then : BrokerState
+  pub then_is : next.now ≡ Broker then
+  pub made : AreMade (count_of broker.hub + 1) first turns now
+  pub idle : Each (IsIdle pages) turns
+  pub next_place : next.place ≡ 0
+  pub next_before : next.before ≡ Broker broker
+  pub next_idle : IsIdle pages next
+  pub broker_turned : 0 < turns_of 0 turns
+  pub agents_turned : (place : ℕ) → place < count_of broker.hub → 8 ≤ turns_of (place + 1) turns
+  -- what the contract says of the broker after its last turn of the stretch, and what no contract says
+  pub stands : StandsAfter (own.Again broker)
+  pub lines : length broker.lines ≡ count_of broker.hub
+  pub grown : HasGrown broker.hub broker.journal
+  pub undropped : (d : ℕ) → is_dropped broker.journal d ≡ false
+  pub domains : (place : ℕ) (line : BrokerLine) → IsAt broker.lines place line → DomainStays pages first now broker then next.now stands.0.said place line
+
+-- there is no such stretch
+abbrev pub NoStretchLasts : Type 0
+NoStretchLasts = (pages : RunPages) (first now : ℕ → Task) (turns : List TurnMade) (next : TurnMade) → ¬ StretchRests pages first now turns next
