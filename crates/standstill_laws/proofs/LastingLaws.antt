@@ -1,15 +1,10 @@
 -- Where all that a run's tasks found in turns that did nothing is put together, the broker is done.
-use Rattle.std.proofs.Common.{◌≡◌, ℕ, ◌+◌, ◌<◌, true, false, List, [], refl, sym, ap, ◌∙◌, subst}
-use Rattle.ring_words.specs.declared.page.Role.TheVariants.{Server}
-use Rattle.vchan_protocol.specs.History.Core.{Core}
-use Rattle.vchan_rule.specs.Seated.{view}
+use Rattle.std.proofs.Common.{◌≡◌, ℕ, true, false, List, refl, sym, ◌∙◌, subst}
 use Rattle.broker_task.specs.declared.outbox.Letter.{Letter}
-use Rattle.call_broker.specs.Domains.{count_of}
 use Rattle.agent_slots.specs.Sessions.{Session, is_open, session_at}
 use Rattle.broker_task.specs.Given.{BrokerState}
-use Rattle.broker_task.specs.Letters.{IsAt, AreHeld}
-use Rattle.broker_task.specs.Lines.{is_shut}
-use Rattle.broker_task.specs.Moving.{BrokerLine, all_held}
+use Rattle.broker_task.specs.Letters.{AreHeld}
+use Rattle.broker_task.specs.Moving.{all_held}
 use Rattle.standstill_laws.specs.Letters.{AreAtRest}
 use Rattle.standstill_laws.specs.Standstill.{IsShut as StaysShut, DomainStandsStill}
 use Rattle.standstill_laws.specs.Lasting.{SessionLasts, IsShut, AsCaller, AsServing, CallsAlone, ServesAlone, DomainLasts, RunLasts, NoRunLasts}

@@ -27,3 +27,4 @@ mod RestingLaws
 mod LastingLaws
 mod IdleLaws
 mod StretchesLaws
+mod FairLaws

@@ -1,12 +1,11 @@
 -- A page that rested from one moment to another did so between any two moments between them.
-use Rattle.std.proofs.Common.{◌≡◌, ◌≢◌, Bool, true, false, length, refl, sym, ap, ◌∙◌, subst, arith}
-use Rattle.ring_words.specs.declared.page.Role.{Role}
+use Rattle.std.proofs.Common.{◌≡◌, ◌≢◌, Bool, true, false, refl, sym, ◌∙◌, arith}
 use Rattle.vchan_protocol.specs.declared.call.EndState.{EndState}
 use Rattle.vchan_protocol.specs.declared.call.EndState.TheVariants.{Fresh, Open, Shut}
 use Rattle.vchan_protocol.specs.declared.side.Side.{Side}
 use Rattle.vchan_protocol.specs.History.Core.{Core, side_of}
 use Rattle.standstill_laws.specs.Keeping.{EndRested, PageRested}
-use Rattle.standstill_laws.specs.Moments.{EndGoesOn, PageGoesOn, IsBetween, MomentsRest}
+use Rattle.standstill_laws.specs.Moments.{EndGoesOn, IsBetween, MomentsRest}
 use Rattle.standstill_laws.proofs.KeepingLaws.{findings_stay_lem}
 
 -- ---- one end

@@ -1,5 +1,5 @@
 -- Where two turns of the broker in a row did nothing, its outboxes are empty.
-use Rattle.std.proofs.Common.{◌≡◌, ◌≢◌, ◌⊎◌, ℕ, ◌≤◌, true, false, List, [], ◌∷◌, length, Option, None, inl, inr, refl, sym, ap, ◌∙◌, subst, arith}
+use Rattle.std.proofs.Common.{◌≡◌, ◌≢◌, ◌⊎◌, ℕ, ◌≤◌, List, [], ◌∷◌, length, Option, None, inl, inr, refl, sym, ap, ◌∙◌, subst, arith}
 use Rattle.std.specs.Prelude.{IsSome}
 use Rattle.ring_words.specs.declared.page.Role.{Role}
 use Rattle.ring_words.specs.declared.page.Role.TheVariants.{Server, Client}
@@ -7,19 +7,17 @@ use Rattle.vchan_protocol.specs.declared.call.EndState.TheVariants.{Shut}
 use Rattle.vchan_protocol.specs.Table.Ends.{read_ring}
 use Rattle.vchan_protocol.specs.Answering.Loads.{loads_of}
 use Rattle.vchan_protocol.specs.History.Core.{Core, standing_of}
-use Rattle.vchan_rule.specs.Seated.{SeatedEnd, view}
+use Rattle.vchan_rule.specs.Seated.{SeatedEnd}
 use Rattle.vchan_lifecycle.specs.Lifecycle.{FindsNotYet}
 use Rattle.qrexec_frame.specs.Messages.{written}
 use Rattle.qrexec_frame.specs.declared.message.Message.TheVariants.{Hello}
 use Rattle.task_duties.specs.Broker.Owes.{broker_version}
 use Rattle.broker_task.specs.declared.outbox.Letter.{Letter}
-use Rattle.broker_task.specs.Letters.{IsAt, AreHeld}
-use Rattle.broker_task.specs.Lines.{is_shut}
+use Rattle.broker_task.specs.Letters.{AreHeld}
 use Rattle.broker_task.specs.Moving.{BrokerLine, FindsHere, IsLater, SaysNothing, has_not_greeted, all_held, greeting_waits, letter_waits}
-use Rattle.broker_task.specs.Holding.{HoldsForExecs}
 use Rattle.broker_task.proofs.HoldingLaws.{none_waits}
 use Rattle.standstill_laws.specs.Page.{FoundNothing, FoundNoRoom, FoundPeerShut, IsStillPage}
-use Rattle.standstill_laws.specs.Saying.{FailsStill, SaysNothingStill}
+use Rattle.standstill_laws.specs.Saying.{SaysNothingStill}
 use Rattle.standstill_laws.specs.Keeping.{PageRested}
 use Rattle.standstill_laws.specs.Moments.{IsBetween}
 use Rattle.standstill_laws.specs.Resting.{DrainBetween, HearsBetween, LineRests, OutboxesAreEmpty}

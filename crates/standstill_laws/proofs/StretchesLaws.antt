@@ -1,12 +1,10 @@
 -- A stretch of turns that did nothing tells all by which a run would be over.
-use Rattle.std.proofs.Common.{◌≡◌, ◌≢◌, ℕ, ◌+◌, ◌<◌, ◌≤◌, Bool, true, false, List, [], length, Option, Some, None, refl, sym, ap, ◌∙◌, subst, arith}
+use Rattle.std.proofs.Common.{◌≡◌, ◌≢◌, ℕ, ◌+◌, ◌<◌, ◌≤◌, true, false, List, Option, Some, None, refl, sym, ap, ◌∙◌, subst, arith}
 use Rattle.std.specs.Prelude.{IsSome}
-use Rattle.std.proofs.lemmas.Option.{none-some, same_Some}
+use Rattle.std.proofs.lemmas.Option.{none-some}
 use Rattle.ring_words.specs.declared.page.Role.TheVariants.{Server, Client}
 use Rattle.vchan_protocol.specs.declared.call.EndState.{EndState}
 use Rattle.vchan_protocol.specs.declared.call.EndState.TheVariants.{Open, Shut}
-use Rattle.vchan_protocol.specs.declared.side.Side.{Side}
-use Rattle.vchan_protocol.specs.History.Core.{Core}
 use Rattle.vchan_rule.specs.Seated.{SeatedEnd, view}
 use Rattle.vchan_lifecycle.specs.Lifecycle.{FindsNotYet}
 use Rattle.call_broker.specs.Domains.{count_of}
@@ -33,14 +31,14 @@ use Rattle.standstill_laws.specs.Counting.{TurnMade}
 use Rattle.standstill_laws.specs.Keeping.{PageRested}
 use Rattle.standstill_laws.specs.Stretch.{AreMoments, HoldsControl}
 use Rattle.standstill_laws.specs.Moments.{WasSo}
-use Rattle.standstill_laws.specs.Pace.{IsHeld, CallRests, ServingRests, BothRest}
-use Rattle.standstill_laws.specs.Resting.{DrainBetween, LineRests}
+use Rattle.standstill_laws.specs.Pace.{CallRests, ServingRests, BothRest}
+use Rattle.standstill_laws.specs.Resting.{DrainBetween}
 use Rattle.standstill_laws.specs.Idle.{Span, RunPages, HeardFound, ChannelFound, NoMoreFound, SaidFound, AsksNone, AgentFound, LinesFound, IsIdle, AgentIsIdle, BrokerIsIdle}
-use Rattle.standstill_laws.specs.Lasting.{SessionLasts, IsShut as StaysShut, AsCaller as CallsOnPage, AsServing as ServesOnPage, CallsAlone as CallsByItself, ServesAlone as ServesByItself, LineLasts, DomainLasts, RunLasts}
+use Rattle.standstill_laws.specs.Lasting.{SessionLasts, IsShut as StaysShut, AsCaller as CallsOnPage, AsServing as ServesOnPage, CallsAlone as CallsByItself, ServesAlone as ServesByItself, LineLasts, DomainLasts}
 use Rattle.standstill_laws.specs.Stretches.{turns_of, CallerStays, ServingStays, SessionStays, IsShut, AsCaller, AsServing, CallsAlone, ServesAlone, DomainStays, StretchRests, NoStretchLasts}
 use Rattle.standstill_laws.proofs.StretchLaws.{stretches_rest_lem, control_pages_rest_lem}
 use Rattle.standstill_laws.proofs.PaceLaws.{last_between}
-use Rattle.standstill_laws.proofs.IdleLaws.{idle_nothing, all_nothing, rests_then, LastTurn, last_turn, LastOfAgent, last_of_agent, LastOfBroker, last_of_broker, CallsOn, calls_on, ServesOnTo, serves_on, LineWas, line_was, LineWill, line_will, line_at}
+use Rattle.standstill_laws.proofs.IdleLaws.{idle_nothing, all_nothing, rests_then, last_turn, last_of_agent, last_of_broker, CallsOn, calls_on, ServesOnTo, serves_on, line_was, line_will, line_at}
 use Rattle.standstill_laws.proofs.LastingLaws.{no_run_lasts_lem}
 
 same_agent : (a b : AgentState) → Agent a ≡ Agent b → a ≡ b
@@ -119,22 +117,22 @@ record AgentTurn (pages : RunPages) (place : ℕ) (now : AgentState) : Type 0 wh
   rests : AgentRests before now
   found : AgentFound pages place before now turns rests
 
-turn_to : (pages : RunPages) (first now : ℕ → Task) (turns : List TurnMade) (next : TurnMade) → (r : StretchRests pages first now turns next) → TurnTo pages r.broker
+turn_to : (pages : RunPages) (first now : ℕ → Task) (turns : List TurnMade) (next : TurnMade) → (r : StretchRests pages first now turns next) → TurnTo pages r.so.broker
 turn_to pages first now turns next r =
-    let last = last_of_broker pages (now 0) (last_turn pages (count_of r.broker.hub + 1) first now turns r.made r.idle 0 r.broker_turned) in
-    subst (λ (b : BrokerState). TurnTo pages b) (same_broker last.now r.broker (sym last.is ∙ r.is)) (record { before = last.before; rests = last.rests; found = last.found })
+    let last = last_of_broker pages (now 0) (last_turn pages (count_of r.so.broker.hub + 1) first now turns r.made r.so.idle 0 r.broker_turned) in
+    subst (λ (b : BrokerState). TurnTo pages b) (same_broker last.now r.so.broker (sym last.is ∙ r.so.is)) (record { before = last.before; rests = last.rests; found = last.found })
 
 turn_of : (pages : RunPages) (broker then : BrokerState) (made : TurnMade) → IsIdle pages made → made.place ≡ 0 → made.before ≡ Broker broker → made.now ≡ Broker then → TurnFrom pages broker then
 turn_of pages broker then made (AgentIsIdle at before now turns works rests found) placed was is = absurd (omega (arith, placed))
 turn_of pages broker then made (BrokerIsIdle before now turns works rests found) placed was is =
     subst (λ (b : BrokerState). TurnFrom pages b then) (same_broker before broker was) (subst (λ (b : BrokerState). TurnFrom pages before b) (same_broker now then is) (record { rests = rests; found = found }))
 
-turn_from : (pages : RunPages) (first now : ℕ → Task) (turns : List TurnMade) (next : TurnMade) → (r : StretchRests pages first now turns next) → TurnFrom pages r.broker r.then
-turn_from pages first now turns next r = turn_of pages r.broker r.then next r.next_idle r.next_place r.next_before r.then_is
+turn_from : (pages : RunPages) (first now : ℕ → Task) (turns : List TurnMade) (next : TurnMade) → (r : StretchRests pages first now turns next) → TurnFrom pages r.so.broker r.so.then
+turn_from pages first now turns next r = turn_of pages r.so.broker r.so.then next r.so.next_idle r.next_place (sym r.next_is ∙ r.so.is) r.so.then_is
 
 agent_turn : (pages : RunPages) (first now : ℕ → Task) (turns : List TurnMade) (next : TurnMade) → StretchRests pages first now turns next → (place : ℕ) (task : AgentState) → 0 < turns_of (place + 1) turns → now (place + 1) ≡ Agent task → AgentTurn pages place task
 agent_turn pages first now turns next r place task some is =
-    let last = last_of_agent pages place (now (place + 1)) (last_turn pages (count_of r.broker.hub + 1) first now turns r.made r.idle (place + 1) some) in
+    let last = last_of_agent pages place (now (place + 1)) (last_turn pages (count_of r.so.broker.hub + 1) first now turns r.made r.so.idle (place + 1) some) in
     subst (λ (a : AgentState). AgentTurn pages place a) (same_agent last.now task (sym last.is ∙ is)) (record { before = last.before; turns = last.turns; rests = last.rests; found = last.found })
 
 -- ---- a session
@@ -154,14 +152,14 @@ serve_rests span n old new from to on was is =
 calls_so : (pages : RunPages) (first now : ℕ → Task) (turns : List TurnMade) (next : TurnMade) → StretchRests pages first now turns next → (span : Span) (place i : ℕ) → pages.session place i ≡ span → (c : CallerStays span first now place i)
     → CallRests span.first span.last (turns_of (place + 1) turns) c.from c.to
 calls_so pages first now turns next r span place i same c =
-    let on = calls_on pages place i (count_of r.broker.hub + 1) first now turns r.made r.idle c.old c.new c.was c.is c.tells c.from c.was_so in
+    let on = calls_on pages place i (count_of r.so.broker.hub + 1) first now turns r.made r.so.idle c.old c.new c.was c.is c.tells c.from c.was_so in
     call_rests span (turns_of (place + 1) turns) (session_at c.old.sessions i) (session_at c.new.sessions i) c.from c.to
     (subst (λ (p : Span). CallsOn p (turns_of (place + 1) turns) (session_at c.old.sessions i) (session_at c.new.sessions i)) same on) c.was_so c.is_so
 
 serves_so : (pages : RunPages) (first now : ℕ → Task) (turns : List TurnMade) (next : TurnMade) → StretchRests pages first now turns next → (span : Span) (place i : ℕ) → pages.session place i ≡ span → (s : ServingStays span first now place i)
     → ServingRests span.first span.last (turns_of (place + 1) turns) s.from s.to
 serves_so pages first now turns next r span place i same s =
-    let on = serves_on pages place i (count_of r.broker.hub + 1) first now turns r.made r.idle s.old s.new s.was s.is s.tells s.from s.was_so in
+    let on = serves_on pages place i (count_of r.so.broker.hub + 1) first now turns r.made r.so.idle s.old s.new s.was s.is s.tells s.from s.was_so in
     serve_rests span (turns_of (place + 1) turns) (session_at s.old.sessions i) (session_at s.new.sessions i) s.from s.to
     (subst (λ (p : Span). ServesOnTo p (turns_of (place + 1) turns) (session_at s.old.sessions i) (session_at s.new.sessions i)) same on) s.was_so s.is_so
 
@@ -181,8 +179,8 @@ both_so pages first now turns next r span place i peer j mine yours long long' m
   serving_last = s.is_held;
 }
 
-session_lasts : (pages : RunPages) (first now : ℕ → Task) (turns : List TurnMade) (next : TurnMade) → (r : StretchRests pages first now turns next) → (place i : ℕ) (task : AgentState) → place < count_of r.broker.hub → now (place + 1) ≡ Agent task
-    → SessionStays pages first now (count_of r.broker.hub) place i (session_at task.sessions i) → SessionLasts (session_at task.sessions i)
+session_lasts : (pages : RunPages) (first now : ℕ → Task) (turns : List TurnMade) (next : TurnMade) → (r : StretchRests pages first now turns next) → (place i : ℕ) (task : AgentState) → place < count_of r.so.broker.hub → now (place + 1) ≡ Agent task
+    → SessionStays pages first now (count_of r.so.broker.hub) place i (session_at task.sessions i) → SessionLasts (session_at task.sessions i)
 session_lasts pages first now turns next r place i task less is (IsShut shut) = StaysShut shut
 session_lasts pages first now turns next r place i task less is (AsCaller peer j below same moments c s) =
     let one : task ≡ c.new = same_agent task c.new (sym is ∙ c.is) in
@@ -203,12 +201,12 @@ session_lasts pages first now turns next r place i task less is (ServesAlone s r
 
 -- ---- a domain
 
-control_rested : (pages : RunPages) (first now : ℕ → Task) (turns : List TurnMade) (next : TurnMade) → (r : StretchRests pages first now turns next) → (place : ℕ) (line : BrokerLine) → DomainStays pages first now r.broker r.then next.now r.stands.0.said place line
+control_rested : (pages : RunPages) (first now : ℕ → Task) (turns : List TurnMade) (next : TurnMade) → (r : StretchRests pages first now turns next) → (place : ℕ) (line : BrokerLine) → DomainStays pages first now r.so.broker r.so.then next.now r.so.stands.0.said place line
     → PageRested (pages.control place).first (pages.control place).last
 control_rested pages first now turns next r place line d =
-    let many = count_of r.broker.hub + 1 in
-    let each = all_nothing pages turns r.idle in
-    let nothing = subst (λ (t : Task). DoesNothing t next.now) (r.next_before ∙ sym r.is) (idle_nothing pages next r.next_idle) in
+    let many = count_of r.so.broker.hub + 1 in
+    let each = all_nothing pages turns r.so.idle in
+    let nothing = subst (λ (t : Task). DoesNothing t next.now) (sym r.next_is) (idle_nothing pages next r.so.next_idle) in
     control_pages_rest_lem (pages.control place).first (pages.control place).last (first (place + 1)) (now (place + 1)) (first 0) next.now place d.moments (stretches_rest_lem many first now turns r.made each (place + 1))
     (rests_then (first 0) (now 0) next.now (stretches_rest_lem many first now turns r.made each 0) nothing) d.begins_open d.agent_first d.broker_first d.agent_last d.broker_last
 
@@ -219,19 +217,19 @@ agent_holds pages first now broker then next said place line d = subst (λ (t : 
 not_shut : (state : EndState) → state ≡ Open → state ≢ Shut
 not_shut state up is = let bad : Open ≡ Shut = sym up ∙ is in cc
 
-within : (pages : RunPages) (first now : ℕ → Task) (turns : List TurnMade) (next : TurnMade) → (r : StretchRests pages first now turns next) → (place : ℕ) (line : BrokerLine) → IsAt r.broker.lines place line → place < count_of r.broker.hub
-within pages first now turns next r place line there = omega (arith, there.within, r.lines)
+within : (pages : RunPages) (first now : ℕ → Task) (turns : List TurnMade) (next : TurnMade) → (r : StretchRests pages first now turns next) → (place : ℕ) (line : BrokerLine) → IsAt r.so.broker.lines place line → place < count_of r.so.broker.hub
+within pages first now turns next r place line there = omega (arith, there.within, r.so.lines)
 
-line_lasts : (pages : RunPages) (first now : ℕ → Task) (turns : List TurnMade) (next : TurnMade) → (r : StretchRests pages first now turns next) → (place : ℕ) (line : BrokerLine) → IsAt r.broker.lines place line
-    → LineLasts (turn_to pages first now turns next r).before.lines r.then.lines place line
+line_lasts : (pages : RunPages) (first now : ℕ → Task) (turns : List TurnMade) (next : TurnMade) → (r : StretchRests pages first now turns next) → (place : ℕ) (line : BrokerLine) → IsAt r.so.broker.lines place line
+    → LineLasts (turn_to pages first now turns next r).before.lines r.so.then.lines place line
 line_lasts pages first now turns next r place line there =
-    let d = r.domains place line there in
+    let d = r.so.domains place line there in
     let to = turn_to pages first now turns next r in
     let from = turn_from pages first now turns next r in
-    let was = line_was pages.control to.before.lines r.broker.lines to.rests to.found place line there in
-    let will = line_will pages.control r.broker.lines r.then.lines from.rests from.found place line there in
+    let was = line_was pages.control to.before.lines r.so.broker.lines to.rests to.found place line there in
+    let will = line_will pages.control r.so.broker.lines r.so.then.lines from.rests from.found place line there in
     let rested = control_rested pages first now turns next r place line d in
-    let holds = agent_holds pages first now r.broker r.then next.now r.stands.0.said place line d in
+    let holds = agent_holds pages first now r.so.broker r.so.then next.now r.so.stands.0.said place line d in
     let turned = agent_turn pages first now turns next r place d.task (omega (arith, r.agents_turned place (within pages first now turns next r place line there))) d.task_is in
     let drain = agent_drain (pages.control place) turned.before d.task turned.rests.channel turned.found.heard holds.0 in
     let new_up : is_shut (view will.new.end).state ≡ false = will.rests.shut ∙ d.up in
@@ -264,13 +262,13 @@ line_lasts pages first now turns next r place line there =
       version = d.version;
     }
 
-domain_lasts : (pages : RunPages) (first now : ℕ → Task) (turns : List TurnMade) (next : TurnMade) → (r : StretchRests pages first now turns next) → (place : ℕ) → place < count_of r.broker.hub
-    → DomainLasts (turn_to pages first now turns next r).before r.broker r.then r.stands.0.said (line_lasts pages first now turns next r) place
+domain_lasts : (pages : RunPages) (first now : ℕ → Task) (turns : List TurnMade) (next : TurnMade) → (r : StretchRests pages first now turns next) → (place : ℕ) → place < count_of r.so.broker.hub
+    → DomainLasts (turn_to pages first now turns next r).before r.so.broker r.so.then r.so.stands.0.said (line_lasts pages first now turns next r) place
 unfolding line_lasts
 domain_lasts pages first now turns next r place less =
-    let l = line_at r.broker.lines place (omega (arith, less, r.lines)) in
-    let d = r.domains place l.0 l.1 in
-    let holds = agent_holds pages first now r.broker r.then next.now r.stands.0.said place l.0 d in
+    let l = line_at r.so.broker.lines place (omega (arith, less, r.so.lines)) in
+    let d = r.so.domains place l.0 l.1 in
+    let holds = agent_holds pages first now r.so.broker r.so.then next.now r.so.stands.0.said place l.0 d in
     let turned = agent_turn pages first now turns next r place d.task (omega (arith, r.agents_turned place less)) d.task_is in
     let stops = agent_stops (pages.control place) d.task.pages turned.before.channel d.task.channel (turned.turns.1.2 holds.0) (turned.found.said holds.0) turned.found.asks_none d.channel d.channel_is d.agent_greeted d.agent_version in
     record {
@@ -306,4 +304,4 @@ domain_lasts pages first now turns next r place less =
 
 pub no_stretch_lasts_lem : NoStretchLasts
 no_stretch_lasts_lem pages first now turns next r =
-    no_run_lasts_lem (turn_to pages first now turns next r).before r.broker r.then (record { stands = r.stands; grown = r.grown; undropped = r.undropped; lines = line_lasts pages first now turns next r; domains = domain_lasts pages first now turns next r })
+    no_run_lasts_lem (turn_to pages first now turns next r).before r.so.broker r.so.then (record { stands = r.so.stands; grown = r.so.grown; undropped = r.so.undropped; lines = line_lasts pages first now turns next r; domains = domain_lasts pages first now turns next r })

@@ -1,6 +1,6 @@
 -- A turn of a run's task that did nothing, each of whose calls found what was so at a moment of its page.
 -- Source: this project's own.
-use Rattle.std.specs.Prelude.{◌≡◌, ℕ, zero, suc, ◌+◌, false, List, [], ◌∷◌, Option, Some, None}
+use Rattle.std.specs.Prelude.{◌≡◌, ℕ, ◌+◌, false, List, ◌∷◌, Option, Some, None}
 use Rattle.std.specs.List.{AllZip as EachPair}
 use Rattle.ring_words.specs.declared.page.Role.TheVariants.{Server, Client}
 use Rattle.vchan_protocol.specs.History.Core.{Core}

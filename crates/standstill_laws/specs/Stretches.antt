@@ -1,6 +1,6 @@
 -- How many turns in a row of a run between honest domains may all do nothing while its broker goes on.
 -- Source: this project's own.
-use Rattle.std.specs.Prelude.{◌≡◌, ℕ, ◌+◌, ◌<◌, ◌≤◌, ◌==◌, true, false, List, length, map, Some, IsSome}
+use Rattle.std.specs.Prelude.{◌≡◌, ℕ, ◌+◌, ◌*◌, ◌<◌, ◌≤◌, ◌==◌, true, false, List, ◌∷◌, ◌++◌, length, map, Some, IsSome}
 use Rattle.std.specs.List.{count_by, AllByRecursion as Each}
 use Rattle.list_laws.specs.Lists.{AreDifferent}
 use Rattle.ring_words.specs.declared.page.Role.TheVariants.{Client}
@@ -8,7 +8,7 @@ use Rattle.vchan_protocol.specs.declared.call.EndState.TheVariants.{Open}
 use Rattle.vchan_protocol.specs.History.Core.{Core}
 use Rattle.vchan_rule.specs.Seated.{view}
 use Rattle.qrexec_frame.specs.declared.message.Message.{Message}
-use Rattle.call_broker.specs.Domains.{count_of}
+use Rattle.call_broker.specs.Domains.{Domains, count_of}
 use Rattle.call_broker.specs.Journal.{is_dropped}
 use Rattle.task_duties.specs.Words.{ident_of}
 use Rattle.task_duties.specs.Broker.Owes.{broker_version, awaited_of}
@@ -30,11 +30,13 @@ use Rattle.broker_task.specs.Standing.{IsAttended}
 use Rattle.broker_task.specs.Turns.{StandsAfter}
 use Rattle.domain_task.specs.declared.task.Task.{Task}
 use Rattle.domain_task.specs.declared.task.Task.TheVariants.{Agent, Broker}
+use Rattle.domain_task.specs.Working.{DoesNothing}
 use Rattle.standstill_laws.specs.Control.{Talks}
 use Rattle.standstill_laws.specs.Letters.{IsPortOf}
 use Rattle.standstill_laws.specs.Asking.{heard_so_far}
 use Rattle.standstill_laws.specs.Order.{HasGrown, AreSentInOrder}
-use Rattle.standstill_laws.specs.Counting.{TurnMade, AreMade}
+use Rattle.standstill_laws.specs.Counting.{TurnMade, AreMade, NoStretchRests}
+use Rattle.standstill_laws.specs.Work.{IsHonestRun, run_work}
 use Rattle.standstill_laws.specs.Stretch.{AreMoments, HoldsControl, HoldsLine}
 use Rattle.standstill_laws.specs.Moments.{IsBetween}
 use Rattle.standstill_laws.specs.Pace.{IsHeld}
@@ -128,19 +130,14 @@ pub record DomainStays (pages : RunPages) (first now : ℕ → Task) (broker the
 
 -- ---- a stretch
 
--- turns that all did nothing, of which one was the broker's and eight were those of each agent, and after them one more of the broker's
-pub record StretchRests (pages : RunPages) (first now : ℕ → Task) (turns : List TurnMade) (next : TurnMade) : Type 0 where
+-- so stand the tasks and their pages in a stretch of turns that all did nothing, and in the broker's next turn, which did nothing either
+pub record StretchStands (pages : RunPages) (first now : ℕ → Task) (turns : List TurnMade) (next : TurnMade) : Type 0 where
   pub broker : BrokerState
   pub is : now 0 ≡ Broker broker
   pub then : BrokerState
   pub then_is : next.now ≡ Broker then
-  pub made : AreMade (count_of broker.hub + 1) first turns now
   pub idle : Each (IsIdle pages) turns
-  pub next_place : next.place ≡ 0
-  pub next_before : next.before ≡ Broker broker
   pub next_idle : IsIdle pages next
-  pub broker_turned : 0 < turns_of 0 turns
-  pub agents_turned : (place : ℕ) → place < count_of broker.hub → 8 ≤ turns_of (place + 1) turns
   -- what the contract says of the broker after its last turn of the stretch, and what no contract says
   pub stands : StandsAfter (own.Again broker)
   pub lines : length broker.lines ≡ count_of broker.hub
@@ -148,6 +145,35 @@ pub record StretchRests (pages : RunPages) (first now : ℕ → Task) (turns : L
   pub undropped : (d : ℕ) → is_dropped broker.journal d ≡ false
   pub domains : (place : ℕ) (line : BrokerLine) → IsAt broker.lines place line → DomainStays pages first now broker then next.now stands.0.said place line
 
+-- one of the turns was the broker's, and eight were those of each agent
+pub record StretchRests (pages : RunPages) (first now : ℕ → Task) (turns : List TurnMade) (next : TurnMade) : Type 0 where
+  pub so : StretchStands pages first now turns next
+  pub made : AreMade (count_of so.broker.hub + 1) first turns now
+  pub next_place : next.place ≡ 0
+  pub next_is : now 0 ≡ next.before
+  pub broker_turned : 0 < turns_of 0 turns
+  pub agents_turned : (place : ℕ) → place < count_of so.broker.hub → 8 ≤ turns_of (place + 1) turns
+
 -- there is no such stretch
 abbrev pub NoStretchLasts : Type 0
 NoStretchLasts = (pages : RunPages) (first now : ℕ → Task) (turns : List TurnMade) (next : TurnMade) → ¬ StretchRests pages first now turns next
+
+-- ---- a run
+
+-- among so many turns in a row is one of each task
+abbrev pub IsFair : (many round : ℕ) → List TurnMade → Type 0
+IsFair many round turns = (before row after : List TurnMade) → turns ≡ before ++ row ++ after → length row ≡ round → (place : ℕ) → place < many → 0 < turns_of place row
+
+-- wherever turns in a row did nothing, eight or more of each task, and the broker's next one did nothing either, the tasks of these domains stand so on their pages
+abbrev pub StandThroughout : Domains → List TurnMade → Type 0
+StandThroughout hub turns = (before row after : List TurnMade) (next : TurnMade) (first now : ℕ → Task) → turns ≡ before ++ row ++ next ∷ after → AreMade (count_of hub + 1) first row now → now 0 ≡ next.before → next.place ≡ 0
+    → ((place : ℕ) → place < count_of hub + 1 → 8 ≤ turns_of place row) → Each (λ made. DoesNothing made.before made.now) row → DoesNothing next.before next.now → (pages : RunPages) × ((so : StretchStands pages first now row next) × (so.broker.hub ≡ hub))
+
+-- then in a run whose broker goes on there aren't nine times so many turns in a row that all did nothing
+abbrev pub StretchesAreShort : Type 0
+StretchesAreShort = (hub : Domains) (round : ℕ) (first last : ℕ → Task) (turns : List TurnMade) → AreMade (count_of hub + 1) first turns last → IsFair (count_of hub + 1) round turns → StandThroughout hub turns → NoStretchRests (9 * round) turns
+
+-- so the turns after which a task goes on, while the broker does, are fewer than that number times one more than what all tasks have done at most
+abbrev pub FairRunsAreBounded : Type 0
+FairRunsAreBounded = (hub : Domains) (round : ℕ) (first last : ℕ → Task) (turns : List TurnMade) (broker : BrokerState) (agents : ℕ → AgentState) → 0 < round → AreMade (count_of hub + 1) first turns last → IsFair (count_of hub + 1) round turns
+    → StandThroughout hub turns → IsHonestRun hub last broker agents → length turns < (run_work hub agents + 1) * (9 * round)

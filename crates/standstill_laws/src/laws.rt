@@ -21,7 +21,7 @@ ghost use Rattle.standstill_laws.specs.Moments.{MomentsRest};
 ghost use Rattle.standstill_laws.specs.Pace.{NoSessionRests};
 ghost use Rattle.standstill_laws.specs.Resting.{OutboxesAreEmpty};
 ghost use Rattle.standstill_laws.specs.Lasting.{NoRunLasts};
-ghost use Rattle.standstill_laws.specs.Stretches.{NoStretchLasts};
+ghost use Rattle.standstill_laws.specs.Stretches.{NoStretchLasts, StretchesAreShort, FairRunsAreBounded};
 ghost use Rattle.standstill_laws.specs.Order.{EndsComeInOrder, NoneIsEarly, AgentsHearInOrder};
 
 /// If both ends of a page between honest ends drained it and found nothing, and no index changed since, then
@@ -281,6 +281,18 @@ pub fn run_work_is_bounded()
 /// are fewer than that number times one more than this.
 pub fn run_turns_are_bounded()
     ensures { RunTurnsAreBounded }
+{}
+
+/// Where each task has one of so many turns in a row, a run between honest domains doesn't make nine times so many turns
+/// in a row that all do nothing, while its broker goes on.
+pub fn stretches_are_short()
+    ensures { StretchesAreShort }
+{}
+
+/// So while its broker goes on, the turns of such a run after which a task goes on are fewer than nine times that number,
+/// times one more than all its tasks have done at most.
+pub fn fair_runs_are_bounded()
+    ensures { FairRunsAreBounded }
 {}
 
 /// Pages that stand still exist, whatever their orders: one that was just opened, by what a drain of it loads.
