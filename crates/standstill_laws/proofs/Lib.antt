@@ -28,3 +28,4 @@ mod LastingLaws
 mod IdleLaws
 mod StretchesLaws
 mod FairLaws
+mod StepLaws

@@ -57,3 +57,17 @@ pub moments_rest_lem : MomentsRest
 moments_rest_lem first last one other is also rested =
     let both = rested_both first one other (rested_since first last one is rested) (rested_since first last other also rested) in
     (both, findings_stay_lem one other is.since.moments.lawful_now also.since.moments.lawful_now both)
+
+-- ---- an end that rested goes on
+
+pub end_goes_on : (before now : Side) → EndRested before now → EndGoesOn before now
+end_goes_on before now rested = record {
+  got = omega (arith, rested.got);
+  sent = omega (arith, rested.sent);
+  opened = λ opened is. opened (sym rested.state ∙ is);
+  shut = λ is. rested.state ∙ is;
+  retired = λ is. rested.retired ∙ is;
+}
+
+pub same_end : (s : Side) → EndRested s s
+same_end s = record { got = refl; sent = refl; state = refl; retired = refl }

@@ -26,7 +26,7 @@ use Rattle.qrexec_data.specs.Laws.{IsVersion}
 use Rattle.standstill_laws.specs.Page.{FoundNothing, StandsStill}
 use Rattle.standstill_laws.specs.Turns.{SendsStill, IsQuietStill}
 use Rattle.standstill_laws.specs.Sessions.{IsGoneStill}
-use Rattle.standstill_laws.specs.Keeping.{EndRested, PageRested, KeepsFindings}
+use Rattle.standstill_laws.specs.Keeping.{PageRested, KeepsFindings}
 use Rattle.standstill_laws.specs.Stretch.{AreMoments}
 use Rattle.standstill_laws.specs.Moments.{EndGoesOn, IsBetween, WasSo}
 use Rattle.standstill_laws.specs.Pace.{IsQuietBetween, CallRests, NoTurn, QuietTurn, PassedTurn, ServingRests, NoServing, QuietServing, PassedServing, BothRest, NoSessionRests}
@@ -35,7 +35,7 @@ use Rattle.standstill_laws.proofs.SessionLaws.{sessions_go_on_lem}
 use Rattle.standstill_laws.proofs.TurnLaws.{found_nothing, nothing_waits}
 use Rattle.standstill_laws.proofs.OverLaws.{peer_is_there_lem}
 use Rattle.standstill_laws.proofs.StretchLaws.{caller_same, serving_same, end_open, page_rested}
-use Rattle.standstill_laws.proofs.MomentLaws.{moments_rest_lem}
+use Rattle.standstill_laws.proofs.MomentLaws.{end_goes_on, same_end, moments_rest_lem}
 
 -- ---- what a quiet turn found, at the moment that has the end as it left it
 
@@ -193,18 +193,6 @@ quiet_serve first last n s s' (PassedServing m before now then turn rest) long =
     serve_before first last before now then turn (serve_passes first last m now then rest (omega (arith, long, more)) (omega (arith, fewer, more)))
 
 -- ---- the last moment is one of those between
-
-end_goes_on : (before now : Side) → EndRested before now → EndGoesOn before now
-end_goes_on before now rested = record {
-  got = omega (arith, rested.got);
-  sent = omega (arith, rested.sent);
-  opened = λ opened is. opened (sym rested.state ∙ is);
-  shut = λ is. rested.state ∙ is;
-  retired = λ is. rested.retired ∙ is;
-}
-
-same_end : (s : Side) → EndRested s s
-same_end s = record { got = refl; sent = refl; state = refl; retired = refl }
 
 pub last_between : (first last : Core) → AreMoments first last → PageRested first last → IsBetween first last last
 last_between first last moments rested = record {

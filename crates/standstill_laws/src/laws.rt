@@ -17,7 +17,7 @@ ghost use Rattle.standstill_laws.specs.Bounds.{AgentsSayFew, OutboxesHoldFew, Se
 ghost use Rattle.standstill_laws.specs.Traffic.{AgentsSpeak, ControlMessagesAreFew, ControlBytesAreFew};
 ghost use Rattle.standstill_laws.specs.Work.{SidesSendSo, RunWorkIsBounded, RunTurnsAreBounded};
 ghost use Rattle.standstill_laws.specs.Stretch.{ControlPagesRest, DataPagesRest, StretchesRest};
-ghost use Rattle.standstill_laws.specs.Moments.{MomentsRest};
+ghost use Rattle.standstill_laws.specs.Moments.{MomentsRest, PagesGoOn};
 ghost use Rattle.standstill_laws.specs.Pace.{NoSessionRests};
 ghost use Rattle.standstill_laws.specs.Resting.{OutboxesAreEmpty};
 ghost use Rattle.standstill_laws.specs.Lasting.{NoRunLasts};
@@ -163,6 +163,12 @@ pub fn no_agent_is_left()
 /// whatever else its ends did.
 pub fn findings_stay()
     ensures { FindingsStay }
+{}
+
+/// What comes of a page between honest ends by their steps is a later moment of it: no byte is taken back, and what was
+/// opened, shut or retired stays so.
+pub fn pages_go_on()
+    ensures { PagesGoOn }
 {}
 
 /// Where nothing came or went on a page from one moment to another, what was found at a moment between the two, in the
