@@ -16,13 +16,13 @@ use Rattle.standstill_laws.proofs.StretchesLaws.{no_stretch_lasts_lem}
 
 -- ---- lists of turns
 
-record SplitAt (n : ℕ) (turns : List TurnMade) : Type 0 where
-  front : List TurnMade
-  back : List TurnMade
-  is : turns ≡ front ++ back
-  long : length front ≡ n
+pub record SplitAt (n : ℕ) (turns : List TurnMade) : Type 0 where
+  pub front : List TurnMade
+  pub back : List TurnMade
+  pub is : turns ≡ front ++ back
+  pub long : length front ≡ n
 
-split_at : (n : ℕ) (turns : List TurnMade) → n ≤ length turns → SplitAt n turns
+pub split_at : (n : ℕ) (turns : List TurnMade) → n ≤ length turns → SplitAt n turns
 split_at zero turns less = record { front = []; back = turns; is = refl; long = refl }
 split_at (suc n) [] less = absurd (omega (arith, less))
 split_at (suc n) (made ∷ turns) less =
@@ -47,25 +47,25 @@ first_turn place (made ∷ turns) some = by (eqb_tells place made.place) (first_
         let f = later (omega (arith, some, count_same (λ (m : TurnMade). place == m.place) made turns other.0)) in
         record { before = made ∷ f.before; made = f.made; after = f.after; is = ap (λ (l : List TurnMade). made ∷ l) f.is; place_is = f.place_is }
 
-turns_append : (place : ℕ) (a b : List TurnMade) → turns_of place (a ++ b) ≡ turns_of place a + turns_of place b
+pub turns_append : (place : ℕ) (a b : List TurnMade) → turns_of place (a ++ b) ≡ turns_of place a + turns_of place b
 turns_append place a b = sum_by-append (λ (made : TurnMade). cond (place == made.place) 1 0) a b
 
 -- turns that come before a split of some in a row, and behind it
-at_front : (turns before row after front back : List TurnMade) → turns ≡ before ++ row ++ after → row ≡ front ++ back → turns ≡ before ++ front ++ (back ++ after)
+pub at_front : (turns before row after front back : List TurnMade) → turns ≡ before ++ row ++ after → row ≡ front ++ back → turns ≡ before ++ front ++ (back ++ after)
 at_front turns before row after front back parts is =
     parts ∙ ap (λ (l : List TurnMade). before ++ l ++ after) is ∙ ap (λ (l : List TurnMade). l ++ after) (sym (append_assoc before front back)) ∙ append_assoc (before ++ front) back after
 
-at_back : (turns before row after front back : List TurnMade) → turns ≡ before ++ row ++ after → row ≡ front ++ back → turns ≡ (before ++ front) ++ back ++ after
+pub at_back : (turns before row after front back : List TurnMade) → turns ≡ before ++ row ++ after → row ≡ front ++ back → turns ≡ (before ++ front) ++ back ++ after
 at_back turns before row after front back parts is = parts ∙ ap (λ (l : List TurnMade). before ++ l ++ after) is ∙ ap (λ (l : List TurnMade). l ++ after) (sym (append_assoc before front back))
 
 -- ---- tasks
 
-record MadeTwice (many : ℕ) (first : ℕ → Task) (a b : List TurnMade) (last : ℕ → Task) : Type 0 where
-  mid : ℕ → Task
-  front : AreMade many first a mid
-  back : AreMade many mid b last
+pub record MadeTwice (many : ℕ) (first : ℕ → Task) (a b : List TurnMade) (last : ℕ → Task) : Type 0 where
+  pub mid : ℕ → Task
+  pub front : AreMade many first a mid
+  pub back : AreMade many mid b last
 
-made_split : (many : ℕ) (first last : ℕ → Task) (a b : List TurnMade) → AreMade many first (a ++ b) last → MadeTwice many first a b last
+pub made_split : (many : ℕ) (first last : ℕ → Task) (a b : List TurnMade) → AreMade many first (a ++ b) last → MadeTwice many first a b last
 made_split many first last [] b made = record { mid = first; front = NoneIsMade first; back = made }
 made_split many first last (x ∷ a) b (OneIsMade tasks last' made turns placed is rest) =
     let s = made_split many (tasks_after first x) last a b rest in

@@ -29,3 +29,4 @@ mod IdleLaws
 mod StretchesLaws
 mod FairLaws
 mod StepLaws
+mod LeavingLaws

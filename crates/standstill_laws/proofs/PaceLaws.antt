@@ -61,7 +61,7 @@ still_then first last keeps who still waiting was_shut before now q f = record {
 }
 
 -- the end across from it isn't retired
-peer_was_there : (first last : Core) (who : Role) (before now : SeatedEnd) → FindsNotYet before now → WasSo first last (λ core. IsGoneStill core who (loads_of (standing_of before.side) now.side.trail)) → (side_of first (peer who)).retired ≡ false
+pub peer_was_there : (first last : Core) (who : Role) (before now : SeatedEnd) → FindsNotYet before now → WasSo first last (λ core. IsGoneStill core who (loads_of (standing_of before.side) now.side.trail)) → (side_of first (peer who)).retired ≡ false
 peer_was_there first last who before now not_yet here = by_flag (side_of first (peer who)).retired refl
   where
     by_flag : (b : Bool) → (side_of first (peer who)).retired ≡ b → b ≡ false

@@ -44,7 +44,7 @@ rests_shut version s own (IsShut is) = is
 rests_shut version s own (AsCaller core other peer lawful theirs mine yours) = ended_shut s (no_session_is_open_lem core version other s peer lawful own theirs mine yours).0
 rests_shut version s own (AsServing core other peer lawful theirs yours mine) = ended_shut s (no_session_is_open_lem core other version peer s lawful theirs own yours mine).1
 
-none_opened : (task : AgentState) (opened : List (ℕ × ℕ)) → Each (IsOpenSession task) opened → ((i : ℕ) → is_open (session_at task.sessions i) ≡ false) → opened ≡ []
+pub none_opened : (task : AgentState) (opened : List (ℕ × ℕ)) → Each (IsOpenSession task) opened → ((i : ℕ) → is_open (session_at task.sessions i) ≡ false) → opened ≡ []
 none_opened task [] each shut = refl
 none_opened task (s ∷ opened) each shut = let bad : true ≡ false = sym each.0.is_open ∙ shut each.0.at in cc
 

@@ -3,6 +3,8 @@ use Rattle.std.proofs.Common.{◌≡◌, ◌≢◌, ℕ, ◌+◌, ◌<◌, ◌�
 use Rattle.std.specs.Prelude.{IsSome}
 use Rattle.std.proofs.lemmas.Option.{none-some}
 use Rattle.ring_words.specs.declared.page.Role.TheVariants.{Server, Client}
+use Rattle.vchan_protocol.specs.Answering.Loads.{loads_of}
+use Rattle.vchan_protocol.specs.History.Core.{standing_of}
 use Rattle.vchan_protocol.specs.declared.call.EndState.{EndState}
 use Rattle.vchan_protocol.specs.declared.call.EndState.TheVariants.{Open, Shut}
 use Rattle.vchan_rule.specs.Seated.{SeatedEnd, view}
@@ -16,7 +18,7 @@ use Rattle.task_pool.specs.declared.task.Turn.TheVariants.{Again}
 use Rattle.channel_session.specs.Calling.{CallerAt}
 use Rattle.channel_session.specs.Answering.{ServingAt}
 use Rattle.qrexec_frame.specs.declared.message.Message.{Message}
-use Rattle.std.specs.List.{AllZip as EachPair}
+use Rattle.std.specs.List.{AllZip as EachPair, AllByRecursion as Each}
 use Rattle.domain_task.specs.Turning.{AgentTurns}
 use Rattle.agent_task.specs.Moving.{SaysNoMore, HasNotGreeted, WasNotGreeted, HasStopped, TurnsChannel, asked_at_most}
 use Rattle.broker_task.specs.Given.{BrokerState}
@@ -27,7 +29,8 @@ use Rattle.domain_task.specs.declared.task.Task.{Task}
 use Rattle.domain_task.specs.declared.task.Task.TheVariants.{Agent, Broker}
 use Rattle.domain_task.specs.Working.{IsStill, ChannelRests, IsUp, WasOver, AgentRests, Rests, DoesNothing}
 use Rattle.standstill_laws.specs.Saying.{StopsStill}
-use Rattle.standstill_laws.specs.Counting.{TurnMade}
+use Rattle.standstill_laws.specs.Sessions.{IsGoneStill}
+use Rattle.standstill_laws.specs.Counting.{TurnMade, AreMade}
 use Rattle.standstill_laws.specs.Keeping.{PageRested}
 use Rattle.standstill_laws.specs.Stretch.{AreMoments, HoldsControl}
 use Rattle.standstill_laws.specs.Moments.{WasSo}
@@ -50,17 +53,18 @@ same_broker a b e = cc
 -- ---- the last turn of an agent
 
 -- its drain
-record DrainOf (span : Span) : Type 0 where
-  began : SeatedEnd
-  heard : SeatedEnd
-  not_yet : FindsNotYet began heard
-  found : DrainBetween span.first span.last Server began heard not_yet
+pub record DrainOf (span : Span) : Type 0 where
+  pub began : SeatedEnd
+  pub heard : SeatedEnd
+  pub not_yet : FindsNotYet began heard
+  pub found : DrainBetween span.first span.last Server began heard not_yet
+  pub here : WasSo span.first span.last (λ core. IsGoneStill core Server (loads_of (standing_of began.side) heard.side.trail))
 
-agent_drain : (span : Span) (old new : AgentState) (r : ChannelRests old new) → ChannelFound span old new r → new.over ≡ None → DrainOf span
+pub agent_drain : (span : Span) (old new : AgentState) (r : ChannelRests old new) → ChannelFound span old new r → new.over ≡ None → DrainOf span
 agent_drain span old new (IsUp was is still) found up = by old.channel new.channel still found
   where
     by : (o n : Option AgentControl) (still : IsStill o n) → HeardFound span o n still → DrainOf span
-    by (Some a) (Some b) still found = record { began = still.nothing.greeted.end; heard = still.heard; not_yet = still.nothing.not_yet; found = found }
+    by (Some a) (Some b) still found = record { began = still.nothing.greeted.end; heard = still.heard; not_yet = still.nothing.not_yet; found = found.0; here = found.1 }
     by (Some a) None still found = absurd still
     by None (Some b) still found = absurd still
     by None None still found = absurd still
@@ -111,11 +115,11 @@ record TurnFrom (pages : RunPages) (now then : BrokerState) : Type 0 where
   rests : EachPair Rests now.lines then.lines
   found : LinesFound pages.control 0 now.lines then.lines rests
 
-record AgentTurn (pages : RunPages) (place : ℕ) (now : AgentState) : Type 0 where
-  before : AgentState
-  turns : AgentTurns before (Again (Agent now))
-  rests : AgentRests before now
-  found : AgentFound pages place before now turns rests
+pub record AgentTurn (pages : RunPages) (place : ℕ) (now : AgentState) : Type 0 where
+  pub before : AgentState
+  pub turns : AgentTurns before (Again (Agent now))
+  pub rests : AgentRests before now
+  pub found : AgentFound pages place before now turns rests
 
 turn_to : (pages : RunPages) (first now : ℕ → Task) (turns : List TurnMade) (next : TurnMade) → (r : StretchRests pages first now turns next) → TurnTo pages r.so.broker
 turn_to pages first now turns next r =
@@ -130,9 +134,9 @@ turn_of pages broker then made (BrokerIsIdle before now turns works rests found)
 turn_from : (pages : RunPages) (first now : ℕ → Task) (turns : List TurnMade) (next : TurnMade) → (r : StretchRests pages first now turns next) → TurnFrom pages r.so.broker r.so.then
 turn_from pages first now turns next r = turn_of pages r.so.broker r.so.then next r.so.next_idle r.next_place (sym r.next_is ∙ r.so.is) r.so.then_is
 
-agent_turn : (pages : RunPages) (first now : ℕ → Task) (turns : List TurnMade) (next : TurnMade) → StretchRests pages first now turns next → (place : ℕ) (task : AgentState) → 0 < turns_of (place + 1) turns → now (place + 1) ≡ Agent task → AgentTurn pages place task
-agent_turn pages first now turns next r place task some is =
-    let last = last_of_agent pages place (now (place + 1)) (last_turn pages (count_of r.so.broker.hub + 1) first now turns r.made r.so.idle (place + 1) some) in
+pub agent_turn : (pages : RunPages) (many : ℕ) (first now : ℕ → Task) (turns : List TurnMade) → AreMade many first turns now → Each (IsIdle pages) turns → (place : ℕ) (task : AgentState) → 0 < turns_of (place + 1) turns → now (place + 1) ≡ Agent task → AgentTurn pages place task
+agent_turn pages many first now turns made idle place task some is =
+    let last = last_of_agent pages place (now (place + 1)) (last_turn pages many first now turns made idle (place + 1) some) in
     subst (λ (a : AgentState). AgentTurn pages place a) (same_agent last.now task (sym last.is ∙ is)) (record { before = last.before; turns = last.turns; rests = last.rests; found = last.found })
 
 -- ---- a session
@@ -149,28 +153,28 @@ serve_rests span n old new from to on was is =
     let two : on.to ≡ to = let e : ServesWith on.to ≡ ServesWith to = sym on.is ∙ is in cc in
     subst (λ (at : ServingAt). ServingRests span.first span.last n from at) two (subst (λ (at : ServingAt). ServingRests span.first span.last n at on.to) one on.rests)
 
-calls_so : (pages : RunPages) (first now : ℕ → Task) (turns : List TurnMade) (next : TurnMade) → StretchRests pages first now turns next → (span : Span) (place i : ℕ) → pages.session place i ≡ span → (c : CallerStays span first now place i)
+calls_so : (pages : RunPages) (many : ℕ) (first now : ℕ → Task) (turns : List TurnMade) → AreMade many first turns now → Each (IsIdle pages) turns → (span : Span) (place i : ℕ) → pages.session place i ≡ span → (c : CallerStays span first now place i)
     → CallRests span.first span.last (turns_of (place + 1) turns) c.from c.to
-calls_so pages first now turns next r span place i same c =
-    let on = calls_on pages place i (count_of r.so.broker.hub + 1) first now turns r.made r.so.idle c.old c.new c.was c.is c.tells c.from c.was_so in
+calls_so pages many first now turns made idle span place i same c =
+    let on = calls_on pages place i many first now turns made idle c.old c.new c.was c.is c.tells c.from c.was_so in
     call_rests span (turns_of (place + 1) turns) (session_at c.old.sessions i) (session_at c.new.sessions i) c.from c.to
     (subst (λ (p : Span). CallsOn p (turns_of (place + 1) turns) (session_at c.old.sessions i) (session_at c.new.sessions i)) same on) c.was_so c.is_so
 
-serves_so : (pages : RunPages) (first now : ℕ → Task) (turns : List TurnMade) (next : TurnMade) → StretchRests pages first now turns next → (span : Span) (place i : ℕ) → pages.session place i ≡ span → (s : ServingStays span first now place i)
+serves_so : (pages : RunPages) (many : ℕ) (first now : ℕ → Task) (turns : List TurnMade) → AreMade many first turns now → Each (IsIdle pages) turns → (span : Span) (place i : ℕ) → pages.session place i ≡ span → (s : ServingStays span first now place i)
     → ServingRests span.first span.last (turns_of (place + 1) turns) s.from s.to
-serves_so pages first now turns next r span place i same s =
-    let on = serves_on pages place i (count_of r.so.broker.hub + 1) first now turns r.made r.so.idle s.old s.new s.was s.is s.tells s.from s.was_so in
+serves_so pages many first now turns made idle span place i same s =
+    let on = serves_on pages place i many first now turns made idle s.old s.new s.was s.is s.tells s.from s.was_so in
     serve_rests span (turns_of (place + 1) turns) (session_at s.old.sessions i) (session_at s.new.sessions i) s.from s.to
     (subst (λ (p : Span). ServesOnTo p (turns_of (place + 1) turns) (session_at s.old.sessions i) (session_at s.new.sessions i)) same on) s.was_so s.is_so
 
-both_so : (pages : RunPages) (first now : ℕ → Task) (turns : List TurnMade) (next : TurnMade) → StretchRests pages first now turns next → (span : Span) (place i peer j : ℕ) → pages.session place i ≡ span → pages.session peer j ≡ span
+both_so : (pages : RunPages) (many : ℕ) (first now : ℕ → Task) (turns : List TurnMade) → AreMade many first turns now → Each (IsIdle pages) turns → (span : Span) (place i peer j : ℕ) → pages.session place i ≡ span → pages.session peer j ≡ span
     → 8 ≤ turns_of (place + 1) turns → 8 ≤ turns_of (peer + 1) turns → AreMoments span.first span.last → (c : CallerStays span first now place i) (s : ServingStays span first now peer j) → BothRest span.first span.last c.from c.to s.from s.to
-both_so pages first now turns next r span place i peer j mine yours long long' moments c s = record {
+both_so pages many first now turns made idle span place i peer j mine yours long long' moments c s = record {
   moments = moments;
   caller_turns = turns_of (place + 1) turns;
   serving_turns = turns_of (peer + 1) turns;
-  calls = calls_so pages first now turns next r span place i mine c;
-  serves = serves_so pages first now turns next r span peer j yours s;
+  calls = calls_so pages many first now turns made idle span place i mine c;
+  serves = serves_so pages many first now turns made idle span peer j yours s;
   calls_long = long;
   serves_long = long';
   caller_first = c.was_held;
@@ -179,25 +183,25 @@ both_so pages first now turns next r span place i peer j mine yours long long' m
   serving_last = s.is_held;
 }
 
-session_lasts : (pages : RunPages) (first now : ℕ → Task) (turns : List TurnMade) (next : TurnMade) → (r : StretchRests pages first now turns next) → (place i : ℕ) (task : AgentState) → place < count_of r.so.broker.hub → now (place + 1) ≡ Agent task
-    → SessionStays pages first now (count_of r.so.broker.hub) place i (session_at task.sessions i) → SessionLasts (session_at task.sessions i)
-session_lasts pages first now turns next r place i task less is (IsShut shut) = StaysShut shut
-session_lasts pages first now turns next r place i task less is (AsCaller peer j below same moments c s) =
+pub session_lasts : (pages : RunPages) (many : ℕ) (first now : ℕ → Task) (turns : List TurnMade) → AreMade many first turns now → Each (IsIdle pages) turns → (IsPeer : ℕ → Type 0) → ((peer : ℕ) → IsPeer peer → 8 ≤ turns_of (peer + 1) turns) → (place i : ℕ) (task : AgentState) → 8 ≤ turns_of (place + 1) turns → now (place + 1) ≡ Agent task
+    → SessionStays pages first now IsPeer place i (session_at task.sessions i) → SessionLasts (session_at task.sessions i)
+session_lasts pages many first now turns made idle IsPeer peers place i task long is (IsShut shut) = StaysShut shut
+session_lasts pages many first now turns made idle IsPeer peers place i task long is (AsCaller peer j below same moments c s) =
     let one : task ≡ c.new = same_agent task c.new (sym is ∙ c.is) in
     CallsOnPage (pages.session place i).first (pages.session place i).last c.from c.to s.from s.to (ap (λ (a : AgentState). session_at a.sessions i) one ∙ c.is_so)
-    (both_so pages first now turns next r (pages.session place i) place i peer j refl same (r.agents_turned place less) (r.agents_turned peer below) moments c s)
-session_lasts pages first now turns next r place i task less is (AsServing peer j below same moments c s) =
+    (both_so pages many first now turns made idle (pages.session place i) place i peer j refl same long (peers peer below) moments c s)
+session_lasts pages many first now turns made idle IsPeer peers place i task long is (AsServing peer j below same moments c s) =
     let one : task ≡ s.new = same_agent task s.new (sym is ∙ s.is) in
     ServesOnPage (pages.session place i).first (pages.session place i).last c.from c.to s.from s.to (ap (λ (a : AgentState). session_at a.sessions i) one ∙ s.is_so)
-    (both_so pages first now turns next r (pages.session place i) peer j place i same refl (r.agents_turned peer below) (r.agents_turned place less) moments c s)
-session_lasts pages first now turns next r place i task less is (CallsAlone c retired) =
+    (both_so pages many first now turns made idle (pages.session place i) peer j place i same refl (peers peer below) long moments c s)
+session_lasts pages many first now turns made idle IsPeer peers place i task long is (CallsAlone c retired) =
     let one : task ≡ c.new = same_agent task c.new (sym is ∙ c.is) in
     CallsByItself (pages.session place i).first (pages.session place i).last (turns_of (place + 1) turns) c.from c.to (ap (λ (a : AgentState). session_at a.sessions i) one ∙ c.is_so)
-    (calls_so pages first now turns next r (pages.session place i) place i refl c) (r.agents_turned place less) retired
-session_lasts pages first now turns next r place i task less is (ServesAlone s retired) =
+    (calls_so pages many first now turns made idle (pages.session place i) place i refl c) long retired
+session_lasts pages many first now turns made idle IsPeer peers place i task long is (ServesAlone s retired) =
     let one : task ≡ s.new = same_agent task s.new (sym is ∙ s.is) in
     ServesByItself (pages.session place i).first (pages.session place i).last (turns_of (place + 1) turns) s.from s.to (ap (λ (a : AgentState). session_at a.sessions i) one ∙ s.is_so)
-    (serves_so pages first now turns next r (pages.session place i) place i refl s) (r.agents_turned place less) retired
+    (serves_so pages many first now turns made idle (pages.session place i) place i refl s) long retired
 
 -- ---- a domain
 
@@ -230,7 +234,7 @@ line_lasts pages first now turns next r place line there =
     let will = line_will pages.control r.so.broker.lines r.so.then.lines from.rests from.found place line there in
     let rested = control_rested pages first now turns next r place line d in
     let holds = agent_holds pages first now r.so.broker r.so.then next.now r.so.stands.0.said place line d in
-    let turned = agent_turn pages first now turns next r place d.task (omega (arith, r.agents_turned place (within pages first now turns next r place line there))) d.task_is in
+    let turned = agent_turn pages (count_of r.so.broker.hub + 1) first now turns r.made r.so.idle place d.task (omega (arith, r.agents_turned place (within pages first now turns next r place line there))) d.task_is in
     let drain = agent_drain (pages.control place) turned.before d.task turned.rests.channel turned.found.heard holds.0 in
     let new_up : is_shut (view will.new.end).state ≡ false = will.rests.shut ∙ d.up in
     record {
@@ -269,7 +273,7 @@ domain_lasts pages first now turns next r place less =
     let l = line_at r.so.broker.lines place (omega (arith, less, r.so.lines)) in
     let d = r.so.domains place l.0 l.1 in
     let holds = agent_holds pages first now r.so.broker r.so.then next.now r.so.stands.0.said place l.0 d in
-    let turned = agent_turn pages first now turns next r place d.task (omega (arith, r.agents_turned place less)) d.task_is in
+    let turned = agent_turn pages (count_of r.so.broker.hub + 1) first now turns r.made r.so.idle place d.task (omega (arith, r.agents_turned place less)) d.task_is in
     let stops = agent_stops (pages.control place) d.task.pages turned.before.channel d.task.channel (turned.turns.1.2 holds.0) (turned.found.said holds.0) turned.found.asks_none d.channel d.channel_is d.agent_greeted d.agent_version in
     record {
       line = l.0;
@@ -298,7 +302,7 @@ domain_lasts pages first now turns next r place less =
         stops = stops.stops;
         found = stops.found;
         none_asked = stops.none_asked;
-        sessions = λ i. session_lasts pages first now turns next r place i d.task less d.task_is (d.sessions i);
+        sessions = λ i. session_lasts pages (count_of r.so.broker.hub + 1) first now turns r.made r.so.idle (λ peer. peer < count_of r.so.broker.hub) r.agents_turned place i d.task (r.agents_turned place less) d.task_is (d.sessions i);
       };
     }
 

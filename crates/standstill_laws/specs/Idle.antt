@@ -3,7 +3,8 @@
 use Rattle.std.specs.Prelude.{◌≡◌, ℕ, ◌+◌, false, List, ◌∷◌, Option, Some, None}
 use Rattle.std.specs.List.{AllZip as EachPair}
 use Rattle.ring_words.specs.declared.page.Role.TheVariants.{Server, Client}
-use Rattle.vchan_protocol.specs.History.Core.{Core}
+use Rattle.vchan_protocol.specs.Answering.Loads.{loads_of}
+use Rattle.vchan_protocol.specs.History.Core.{Core, standing_of}
 use Rattle.vchan_rule.specs.Seated.{view}
 use Rattle.task_pool.specs.declared.task.Turn.TheVariants.{Again}
 use Rattle.channel_session.specs.declared.pause.Turned.{Turned}
@@ -21,6 +22,7 @@ use Rattle.domain_task.specs.declared.task.Task.TheVariants.{Agent, Broker}
 use Rattle.domain_task.specs.Turning.{AgentTurns, BrokerTurns}
 use Rattle.domain_task.specs.Working.{IsStill, ChannelRests, IsUp, WasOver, SessionRests, CallerRests, ServingRests, PageAwaited, HasNotBegun, HadEnded, AgentRests, Rests, Works}
 use Rattle.standstill_laws.specs.Saying.{StopsStill}
+use Rattle.standstill_laws.specs.Sessions.{IsGoneStill}
 use Rattle.standstill_laws.specs.Counting.{TurnMade}
 use Rattle.standstill_laws.specs.Moments.{WasSo}
 use Rattle.standstill_laws.specs.Pace.{IsQuietBetween}
@@ -58,9 +60,10 @@ SessionFound span old new (PageAwaited was is) = Unit {0}
 SessionFound span old new (HasNotBegun was is) = Unit {0}
 SessionFound span old new (HadEnded end was is) = Unit {0}
 
--- its drain, while its channel is up
+-- its drain, while its channel is up, and whether the broker is there
 abbrev pub HeardFound : Span → (old new : Option AgentControl) → IsStill old new → Type 0
-HeardFound span (Some old) (Some new) still = DrainBetween span.first span.last Server still.nothing.greeted.end still.heard still.nothing.not_yet
+HeardFound span (Some old) (Some new) still =
+    DrainBetween span.first span.last Server still.nothing.greeted.end still.heard still.nothing.not_yet × WasSo span.first span.last (λ core. IsGoneStill core Server (loads_of (standing_of still.nothing.greeted.end.side) still.heard.side.trail))
 HeardFound span _ _ still = Unit {0}
 
 abbrev pub ChannelFound : Span → (old new : AgentState) → ChannelRests old new → Type 0

@@ -22,3 +22,4 @@ pub mod Resting
 pub mod Lasting
 pub mod Idle
 pub mod Stretches
+pub mod Leaving

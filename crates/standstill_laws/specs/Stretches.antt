@@ -76,15 +76,15 @@ pub record ServingStays (span : Span) (first now : ℕ → Task) (place i : ℕ)
   pub was_held : IsHeld (ServesWith from) span.first.client
   pub is_held : IsHeld (ServesWith to) span.last.client
 
--- a session of one of so many agents isn't open; or it is a side of a session between two of them, on one page; or the end across from it was retired before
-pub data SessionStays (pages : RunPages) (first now : ℕ → Task) (count place i : ℕ) (s : Session) : Type 0 where
-  IsShut : is_open s ≡ false → SessionStays pages first now count place i s
-  AsCaller : (peer j : ℕ) → peer < count → pages.session peer j ≡ pages.session place i → AreMoments (pages.session place i).first (pages.session place i).last
-      → CallerStays (pages.session place i) first now place i → ServingStays (pages.session place i) first now peer j → SessionStays pages first now count place i s
-  AsServing : (peer j : ℕ) → peer < count → pages.session peer j ≡ pages.session place i → AreMoments (pages.session place i).first (pages.session place i).last
-      → CallerStays (pages.session place i) first now peer j → ServingStays (pages.session place i) first now place i → SessionStays pages first now count place i s
-  CallsAlone : CallerStays (pages.session place i) first now place i → (pages.session place i).first.client.retired ≡ true → SessionStays pages first now count place i s
-  ServesAlone : ServingStays (pages.session place i) first now place i → (pages.session place i).first.server.retired ≡ true → SessionStays pages first now count place i s
+-- a session isn't open; or its agent and one of these peers are at the two ends of its page; or the end across from it was retired before
+pub data SessionStays (pages : RunPages) (first now : ℕ → Task) (IsPeer : ℕ → Type 0) (place i : ℕ) (s : Session) : Type 0 where
+  IsShut : is_open s ≡ false → SessionStays pages first now IsPeer place i s
+  AsCaller : (peer j : ℕ) → IsPeer peer → pages.session peer j ≡ pages.session place i → AreMoments (pages.session place i).first (pages.session place i).last
+      → CallerStays (pages.session place i) first now place i → ServingStays (pages.session place i) first now peer j → SessionStays pages first now IsPeer place i s
+  AsServing : (peer j : ℕ) → IsPeer peer → pages.session peer j ≡ pages.session place i → AreMoments (pages.session place i).first (pages.session place i).last
+      → CallerStays (pages.session place i) first now peer j → ServingStays (pages.session place i) first now place i → SessionStays pages first now IsPeer place i s
+  CallsAlone : CallerStays (pages.session place i) first now place i → (pages.session place i).first.client.retired ≡ true → SessionStays pages first now IsPeer place i s
+  ServesAlone : ServingStays (pages.session place i) first now place i → (pages.session place i).first.server.retired ≡ true → SessionStays pages first now IsPeer place i s
 
 -- ---- a domain
 
@@ -126,7 +126,7 @@ pub record DomainStays (pages : RunPages) (first now : ℕ → Task) (broker the
   pub differ : AreDifferent (map (λ call. ident_of call.number) task.plan.calls)
   pub given : Each (IsUnusedBy task.plan.domain task.plan.places) (heard_so_far task)
   pub order : AreSentInOrder broker.hub broker.journal task.plan.domain tells.once.said
-  pub sessions : (i : ℕ) → SessionStays pages first now (count_of broker.hub) place i (session_at task.sessions i)
+  pub sessions : (i : ℕ) → SessionStays pages first now (λ peer. peer < count_of broker.hub) place i (session_at task.sessions i)
 
 -- ---- a stretch
 

@@ -22,6 +22,7 @@ ghost use Rattle.standstill_laws.specs.Pace.{NoSessionRests};
 ghost use Rattle.standstill_laws.specs.Resting.{OutboxesAreEmpty};
 ghost use Rattle.standstill_laws.specs.Lasting.{NoRunLasts};
 ghost use Rattle.standstill_laws.specs.Stretches.{NoStretchLasts, StretchesAreShort, FairRunsAreBounded};
+ghost use Rattle.standstill_laws.specs.Leaving.{NoAgentLasts, LeavingIsShort, WholeRunsAreBounded};
 ghost use Rattle.standstill_laws.specs.Order.{EndsComeInOrder, NoneIsEarly, AgentsHearInOrder};
 
 /// If both ends of a page between honest ends drained it and found nothing, and no index changed since, then
@@ -299,6 +300,24 @@ pub fn stretches_are_short()
 /// times one more than all its tasks have done at most.
 pub fn fair_runs_are_bounded()
     ensures { FairRunsAreBounded }
+{}
+
+/// Once the broker is done, an agent that goes on doesn't make eight turns of a stretch that did nothing, if the agent
+/// across from each of its open sessions does.
+pub fn no_agent_lasts()
+    ensures { NoAgentLasts }
+{}
+
+/// So where each agent that isn't done has one of so many turns in a row, the agents don't make eight times so many in a
+/// row that all do nothing, and one more.
+pub fn leaving_is_short()
+    ensures { LeavingIsShort }
+{}
+
+/// So the turns of a whole run between honest domains after which a task goes on are fewer than seventeen times that
+/// number and one, times one more than all its tasks have done at most.
+pub fn whole_runs_are_bounded()
+    ensures { WholeRunsAreBounded }
 {}
 
 /// Pages that stand still exist, whatever their orders: one that was just opened, by what a drain of it loads.

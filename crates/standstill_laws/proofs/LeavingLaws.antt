@@ -1,0 +1,145 @@
+-- Once the broker is done its agents end soon, if each that isn't done has its turns.
+use Rattle.std.proofs.Common.{◌≡◌, ◌≢◌, ◌⊎◌, ℕ, ◌+◌, ◌-◌, ◌*◌, ◌<◌, ◌≤◌, zero, suc, true, false, List, [], ◌∷◌, ◌++◌, length, length-append, append_assoc, None, refl, sym, ap, ◌∙◌, subst, arith, inl, inr}
+use Rattle.std.specs.List.{AllByRecursion as Each}
+use Rattle.list_laws.proofs.Each.{each_front, each_back}
+use Rattle.call_broker.specs.Domains.{count_of}
+use Rattle.agent_slots.specs.Sessions.{session_at}
+use Rattle.agent_task.specs.State.{TellsSoFar}
+use Rattle.domain_task.specs.declared.task.Task.{Task}
+use Rattle.domain_task.specs.Working.{DoesNothing}
+use Rattle.standstill_laws.specs.Counting.{TurnMade, AreMade, NoneIsMade, OneIsMade, tasks_after, NoStretchRests}
+use Rattle.standstill_laws.specs.Idle.{RunPages}
+use Rattle.ring_words.specs.declared.page.Role.TheVariants.{Server}
+use Rattle.standstill_laws.specs.Stretches.{turns_of}
+use Rattle.standstill_laws.specs.Leaving.{AgentStands, NoAgentLasts, IsFairTill, LeavingIsShort, WholeRunsAreBounded}
+use Rattle.standstill_laws.proofs.PaceLaws.{peer_was_there}
+use Rattle.standstill_laws.proofs.StandstillLaws.{none_opened}
+use Rattle.standstill_laws.proofs.LastingLaws.{is_shut_now}
+use Rattle.standstill_laws.proofs.StretchesLaws.{AgentTurn, agent_drain, agent_turn, session_lasts}
+use Rattle.standstill_laws.proofs.FairLaws.{split_at, at_front, at_back, made_split, turns_append, stretches_are_short_lem}
+use Rattle.standstill_laws.proofs.AnswerLaws.{count_more}
+use Rattle.standstill_laws.proofs.WorkLaws.{run_turns_are_bounded_lem}
+use Rattle.std.proofs.lemmas.Bool.Decides.{eqb_tells}
+use Rattle.std.specs.Prelude.{◌==◌}
+
+-- ---- one agent
+
+no_agent_rests : (pages : RunPages) (many : ℕ) (first now : ℕ → Task) (turns : List TurnMade) (place : ℕ) → AreMade many first turns now → AgentStands pages first now turns place → 8 ≤ turns_of (place + 1) turns → ⊥
+no_agent_rests pages many first now turns place made a long = by turn.turns.1.0
+  where
+    turn : AgentTurn pages place a.task
+    turn = agent_turn pages many first now turns made a.idle place a.task (omega (arith, long)) a.is
+
+    tells : TellsSoFar a.task
+    tells = turn.turns.0
+
+    by : (a.task.over ≡ None) ⊎ (a.task.opened ≢ []) → ⊥
+    by (inl up) =
+        let d = agent_drain (pages.control place) turn.before a.task turn.rests.channel turn.found.heard up in
+        let here : (pages.control place).first.client.retired ≡ false = peer_was_there (pages.control place).first (pages.control place).last Server d.began d.heard d.not_yet d.here in
+        let bad : true ≡ false = sym a.retired ∙ here in
+        cc
+    by (inr open_still) =
+        open_still (none_opened a.task a.task.opened tells.acts.opened (λ i. is_shut_now (session_at a.task.sessions i) (session_lasts pages many first now turns made a.idle (λ peer. 8 ≤ turns_of (peer + 1) turns) (λ peer is. is) place i a.task long a.is (a.sessions i))))
+
+pub no_agent_lasts_lem : NoAgentLasts
+no_agent_lasts_lem pages many first now turns place made a = omega (arith, λ (long : 8 ≤ turns_of (place + 1) turns). no_agent_rests pages many first now turns place made a long)
+
+-- ---- all agents
+
+till_rounds : (round : ℕ) (turns : List TurnMade) → IsFairTill round turns → (place k : ℕ) (before row after : List TurnMade) → turns ≡ before ++ row ++ after → 0 < turns_of place after → length row ≡ k * round → k ≤ turns_of place row
+till_rounds round turns fair place zero before row after parts later long = omega arith
+till_rounds round turns fair place (suc k) before row after parts later long =
+    let s = split_at round row (omega (arith, long)) in
+    let lengths = ap (λ (l : List TurnMade). length l) s.is ∙ length-append s.front s.back in
+    let still : 0 < turns_of place (s.back ++ after) = omega (arith, later, turns_append place s.back after) in
+    let one = fair before s.front (s.back ++ after) (at_front turns before row after s.front s.back parts s.is) s.long place still in
+    let others = till_rounds round turns fair place k (before ++ s.front) s.back after (at_back turns before row after s.front s.back parts s.is) later (omega (arith, long, lengths, s.long)) in
+    let sum = ap (turns_of place) s.is ∙ turns_append place s.front s.back in
+    omega (arith, one, others, sum)
+
+-- a task that makes the next turn makes one of those behind
+makes_one : (place : ℕ) (made : TurnMade) (turns : List TurnMade) → made.place ≡ place → 0 < turns_of place (made ∷ turns)
+makes_one place made turns is = by (eqb_tells place made.place)
+  where
+    by : (((place == made.place) ≡ true) × (place ≡ made.place)) ⊎ (((place == made.place) ≡ false) × (place ≢ made.place)) → 0 < turns_of place (made ∷ turns)
+    by (inl same) = omega (arith, count_more (λ (m : TurnMade). place == m.place) made turns same.0)
+    by (inr other) = absurd (other.1 (sym is))
+
+-- the one turn of a list of that length
+record OneTurnOf (turns : List TurnMade) : Type 0 where
+  made : TurnMade
+  is : turns ≡ made ∷ []
+
+one_turn_of : (turns : List TurnMade) → length turns ≡ 1 → OneTurnOf turns
+one_turn_of [] long = absurd (omega (arith, long))
+one_turn_of (made ∷ []) long = record { made = made; is = refl }
+one_turn_of (made ∷ more ∷ turns) long = absurd (omega (arith, long))
+
+pub leaving_is_short_lem : LeavingIsShort
+leaving_is_short_lem hub round first last turns made agents fair stand before resting after parts long nothing =
+    let many = count_of hub + 1 in
+    let did : TurnMade → Type 0 = λ (m : TurnMade). DoesNothing m.before m.now in
+    let s = split_at (8 * round) resting (omega (arith, long)) in
+    let lengths = ap (λ (l : List TurnMade). length l) s.is ∙ length-append s.front s.back in
+    let n = one_turn_of s.back (omega (arith, long, lengths, s.long)) in
+    let front = at_front turns before resting after s.front s.back parts s.is in
+    let all : turns ≡ before ++ s.front ++ n.made ∷ after = front ∙ ap (λ (l : List TurnMade). before ++ s.front ++ (l ++ after)) n.is in
+    let positive : 0 < n.made.place = (each_back (λ (m : TurnMade). 0 < m.place) (before ++ s.front) (n.made ∷ after) (subst (Each (λ (m : TurnMade). 0 < m.place)) all agents)).0 in
+    let place : ℕ = n.made.place - 1 in
+    let placed : n.made.place ≡ place + 1 = omega (arith, positive) in
+    let eight = till_rounds round turns fair (place + 1) 8 before s.front (n.made ∷ after) all (makes_one (place + 1) n.made after placed) s.long in
+    let two = made_split many first last (before ++ s.front) (n.made ∷ after) (subst (λ (l : List TurnMade). AreMade many first l last) all made) in
+    let one = made_split many first two.mid before s.front two.front in
+    let idle = each_front did s.front s.back (subst (Each did) s.is nothing) in
+    let so = stand before s.front after n.made one.mid two.mid place all one.back placed eight idle in
+    no_agent_rests so.0 many one.mid two.mid s.front place one.back so.1 eight
+
+-- ---- two parts of a run
+
+made_both : (many : ℕ) (first mid last : ℕ → Task) (a b : List TurnMade) → AreMade many first a mid → AreMade many mid b last → AreMade many first (a ++ b) last
+made_both many first mid last [] b (NoneIsMade tasks) rest = rest
+made_both many first mid last (x ∷ a) b (OneIsMade tasks mid' made turns placed is rest) rest' = OneIsMade first last x (a ++ b) placed is (made_both many (tasks_after first x) mid last a b rest rest')
+
+-- two ways to cut one list in two
+record CutsBefore (a b p q : List TurnMade) : Type 0 where
+  between : List TurnMade
+  front : a ≡ p ++ between
+  back : q ≡ between ++ b
+
+tail_of : (x : TurnMade) (xs ys : List TurnMade) (y : TurnMade) → x ∷ xs ≡ y ∷ ys → (x ≡ y) × (xs ≡ ys)
+tail_of x xs ys y same = (let e = same in cc, let e = same in cc)
+
+cuts_before : (a b p q : List TurnMade) → a ++ b ≡ p ++ q → length p ≤ length a → CutsBefore a b p q
+cuts_before a b [] q same less = record { between = a; front = refl; back = sym same }
+cuts_before [] b (y ∷ p) q same less = absurd (omega (arith, less))
+cuts_before (x ∷ a) b (y ∷ p) q same less =
+    let both = tail_of x (a ++ b) (p ++ q) y same in
+    let c = cuts_before a b p q both.1 (omega (arith, less)) in
+    record { between = c.between; front = ap (λ (l : List TurnMade). x ∷ l) c.front ∙ ap (λ (z : TurnMade). z ∷ p ++ c.between) both.0; back = c.back }
+
+-- where neither part has so many turns in a row that all did nothing, the whole hasn't as many as both numbers together
+no_stretch_in_both : (m n : ℕ) (a b : List TurnMade) → NoStretchRests m a → NoStretchRests n b → NoStretchRests (m + n) (a ++ b)
+no_stretch_in_both m n a b none none' before resting after parts long nothing =
+    let did : TurnMade → Type 0 = λ (x : TurnMade). DoesNothing x.before x.now in
+    let s = split_at m resting (omega (arith, long)) in
+    let lengths = ap (λ (l : List TurnMade). length l) s.is ∙ length-append s.front s.back in
+    let back_long : length s.back ≡ n = omega (arith, long, lengths, s.long) in
+    let rests = subst (Each did) s.is nothing in
+    let in_front : length (before ++ s.front) ≤ length a → ⊥ = λ (less : length (before ++ s.front) ≤ length a).
+    let c = cuts_before a b (before ++ s.front) (s.back ++ after) (at_front (a ++ b) before resting after s.front s.back parts s.is) less in
+    none before s.front c.between c.front s.long (each_front did s.front s.back rests) in
+    let in_back : length a ≤ length (before ++ s.front) → ⊥ = λ (less : length a ≤ length (before ++ s.front)).
+    let c = cuts_before (before ++ s.front) (s.back ++ after) a b (sym (at_front (a ++ b) before resting after s.front s.back parts s.is)) less in
+    none' c.between s.back after (c.back ∙ sym (append_assoc c.between s.back after)) back_long (each_back did s.front s.back rests) in
+    omega (arith, in_front, in_back)
+
+pub whole_runs_are_bounded_lem : WholeRunsAreBounded
+whole_runs_are_bounded_lem hub round first mid last during afterwards broker agents run honest =
+    let many = count_of hub + 1 in
+    let one = stretches_are_short_lem hub round first mid during run.made run.fair run.stands in
+    let two = leaving_is_short_lem hub round mid last afterwards run.made_after run.agents run.fair_after run.stands_after in
+    let long : 9 * round + (8 * round + 1) ≡ 17 * round + 1 = omega arith in
+    let none = subst (λ (n : ℕ). NoStretchRests n (during ++ afterwards)) long (no_stretch_in_both (9 * round) (8 * round + 1) during afterwards one two) in
+    let few = run_turns_are_bounded_lem hub (17 * round + 1) first last (during ++ afterwards) broker agents (omega arith) (made_both many first mid last during afterwards run.made run.made_after) none honest in
+    omega (arith, few, length-append during afterwards)

@@ -1,0 +1,61 @@
+-- How many turns in a row of the agents may all do nothing once the broker is done, and how many turns a whole run makes.
+-- Source: this project's own.
+use Rattle.std.specs.Prelude.{◌≡◌, ℕ, ◌+◌, ◌*◌, ◌<◌, ◌≤◌, true, List, ◌∷◌, ◌++◌, length}
+use Rattle.std.specs.List.{AllByRecursion as Each}
+use Rattle.call_broker.specs.Domains.{Domains, count_of}
+use Rattle.agent_slots.specs.Sessions.{session_at}
+use Rattle.agent_task.specs.State.{AgentState}
+use Rattle.broker_task.specs.Given.{BrokerState}
+use Rattle.domain_task.specs.declared.task.Task.{Task}
+use Rattle.domain_task.specs.declared.task.Task.TheVariants.{Agent}
+use Rattle.domain_task.specs.Working.{DoesNothing}
+use Rattle.standstill_laws.specs.Counting.{TurnMade, AreMade, NoStretchRests}
+use Rattle.standstill_laws.specs.Work.{IsHonestRun, run_work}
+use Rattle.standstill_laws.specs.Idle.{RunPages, IsIdle}
+use Rattle.standstill_laws.specs.Stretches.{turns_of, SessionStays, IsFair, StandThroughout}
+
+-- ---- one agent
+
+-- so stands an agent in a stretch of turns that all did nothing: the broker's end of its control page was retired before; and across from each of its open sessions an agent made eight of the turns too, or lies an end that was retired before
+pub record AgentStands (pages : RunPages) (first now : ℕ → Task) (turns : List TurnMade) (place : ℕ) : Type 0 where
+  pub idle : Each (IsIdle pages) turns
+  pub retired : (pages.control place).first.client.retired ≡ true
+  pub task : AgentState
+  pub is : now (place + 1) ≡ Agent task
+  pub sessions : (i : ℕ) → SessionStays pages first now (λ peer. 8 ≤ turns_of (peer + 1) turns) place i (session_at task.sessions i)
+
+-- it doesn't make eight of them
+abbrev pub NoAgentLasts : Type 0
+NoAgentLasts = (pages : RunPages) (many : ℕ) (first now : ℕ → Task) (turns : List TurnMade) (place : ℕ) → AreMade many first turns now → AgentStands pages first now turns place → turns_of (place + 1) turns < 8
+
+-- ---- all agents
+
+-- a task that makes a turn later has one among so many in a row
+abbrev pub IsFairTill : (round : ℕ) → List TurnMade → Type 0
+IsFairTill round turns = (before row after : List TurnMade) → turns ≡ before ++ row ++ after → length row ≡ round → (place : ℕ) → 0 < turns_of place after → 0 < turns_of place row
+
+-- wherever turns in a row did nothing, eight or more of them of the agent that makes the next one, this agent stands so
+abbrev pub AgentsStandThroughout : Domains → List TurnMade → Type 0
+AgentsStandThroughout hub turns = (before row after : List TurnMade) (next : TurnMade) (first now : ℕ → Task) (place : ℕ) → turns ≡ before ++ row ++ next ∷ after → AreMade (count_of hub + 1) first row now → next.place ≡ place + 1 → 8 ≤ turns_of (place + 1) row
+    → Each (λ made. DoesNothing made.before made.now) row → (pages : RunPages) × AgentStands pages first now row place
+
+-- then the agents don't make eight times so many turns in a row that all do nothing, and one more
+abbrev pub LeavingIsShort : Type 0
+LeavingIsShort = (hub : Domains) (round : ℕ) (first last : ℕ → Task) (turns : List TurnMade) → AreMade (count_of hub + 1) first turns last → Each (λ made. 0 < made.place) turns → IsFairTill round turns → AgentsStandThroughout hub turns
+    → NoStretchRests (8 * round + 1) turns
+
+-- ---- a whole run
+
+-- the turns of a run between honest domains after which a task goes on: those while the broker goes on, and those of its agents once it is done
+pub record IsFairRun (hub : Domains) (round : ℕ) (first mid last : ℕ → Task) (during afterwards : List TurnMade) : Type 0 where
+  pub made : AreMade (count_of hub + 1) first during mid
+  pub made_after : AreMade (count_of hub + 1) mid afterwards last
+  pub fair : IsFair (count_of hub + 1) round during
+  pub stands : StandThroughout hub during
+  pub agents : Each (λ made. 0 < made.place) afterwards
+  pub fair_after : IsFairTill round afterwards
+  pub stands_after : AgentsStandThroughout hub afterwards
+
+abbrev pub WholeRunsAreBounded : Type 0
+WholeRunsAreBounded = (hub : Domains) (round : ℕ) (first mid last : ℕ → Task) (during afterwards : List TurnMade) (broker : BrokerState) (agents : ℕ → AgentState) → IsFairRun hub round first mid last during afterwards
+    → IsHonestRun hub last broker agents → length during + length afterwards < (run_work hub agents + 1) * (17 * round + 1)
