@@ -2,6 +2,7 @@
 use Rattle.std.proofs.Common.{◌≡◌, ◌≢◌, ◌⊎◌, ℕ, ◌+◌, ◌<◌, ◌==◌, zero, suc, Bool, true, false, List, [], ◌∷◌, length, refl, sym, ap, ◌∙◌, subst, arith, inl, inr}
 use Rattle.std.specs.List.{AllZip as EachPair, AllByRecursion as Each}
 use Rattle.std.proofs.lemmas.Bool.Decides.{eqb_tells}
+use Rattle.qrexec_data.specs.Laws.{IsVersion}
 use Rattle.task_pool.specs.declared.task.Turn.TheVariants.{Again}
 use Rattle.channel_session.specs.declared.pause.Turned.{Turned}
 use Rattle.channel_session.specs.declared.pause.Turned.TheVariants.{Moved, Quiet, Passed}
@@ -25,7 +26,7 @@ use Rattle.standstill_laws.specs.Idle.{Span, RunPages, CallFound, ServingFound, 
 use Rattle.standstill_laws.specs.Stretches.{turns_of}
 use Rattle.standstill_laws.proofs.AnswerLaws.{count_more, count_same}
 use Rattle.standstill_laws.proofs.CountingLaws.{chosen, passed_over}
-use Rattle.qrexec_data.specs.Laws.{IsVersion}
+use Rattle.standstill_laws.proofs.StretchLaws.{same_agent}
 
 -- ---- any task
 
@@ -108,9 +109,6 @@ stands_at : (version : ℕ) (sessions : List Session) (i : ℕ) → Each (Sessio
 stands_at version [] i each = tt
 stands_at version (s ∷ sessions) zero each = each.0
 stands_at version (s ∷ sessions) (suc i) each = stands_at version sessions i each.1
-
-same_agent : (a b : AgentState) → Agent a ≡ Agent b → a ≡ b
-same_agent a b e = cc
 
 -- what a turn that did nothing makes of such a session: one of the same kind, with one turn more before all that come
 record Goes (Kind : Session → Type 0) (R : ℕ → Session → Session → Type 0) (old new : Session) : Type 0 where

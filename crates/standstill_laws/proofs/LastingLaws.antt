@@ -1,7 +1,7 @@
 -- Where all that a run's tasks found in turns that did nothing is put together, the broker is done.
 use Rattle.std.proofs.Common.{◌≡◌, ℕ, true, false, List, refl, sym, ◌∙◌, subst}
-use Rattle.broker_task.specs.declared.outbox.Letter.{Letter}
 use Rattle.agent_slots.specs.Sessions.{Session, is_open, session_at}
+use Rattle.broker_task.specs.declared.outbox.Letter.{Letter}
 use Rattle.broker_task.specs.Given.{BrokerState}
 use Rattle.broker_task.specs.Letters.{AreHeld}
 use Rattle.broker_task.specs.Moving.{all_held}

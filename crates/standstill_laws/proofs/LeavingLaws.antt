@@ -1,7 +1,9 @@
 -- Once the broker is done its agents end soon, if each that isn't done has its turns.
-use Rattle.std.proofs.Common.{◌≡◌, ◌≢◌, ◌⊎◌, ℕ, ◌+◌, ◌-◌, ◌*◌, ◌<◌, ◌≤◌, zero, suc, true, false, List, [], ◌∷◌, ◌++◌, length, length-append, append_assoc, None, refl, sym, ap, ◌∙◌, subst, arith, inl, inr}
+use Rattle.std.proofs.Common.{◌≡◌, ◌≢◌, ◌⊎◌, ℕ, ◌+◌, ◌-◌, ◌*◌, ◌<◌, ◌≤◌, ◌==◌, zero, suc, true, false, List, [], ◌∷◌, ◌++◌, length, length-append, append_assoc, None, refl, sym, ap, ◌∙◌, subst, arith, inl, inr}
 use Rattle.std.specs.List.{AllByRecursion as Each}
+use Rattle.std.proofs.lemmas.Bool.Decides.{eqb_tells}
 use Rattle.list_laws.proofs.Each.{each_front, each_back}
+use Rattle.ring_words.specs.declared.page.Role.TheVariants.{Server}
 use Rattle.call_broker.specs.Domains.{count_of}
 use Rattle.agent_slots.specs.Sessions.{session_at}
 use Rattle.agent_task.specs.State.{TellsSoFar}
@@ -9,7 +11,6 @@ use Rattle.domain_task.specs.declared.task.Task.{Task}
 use Rattle.domain_task.specs.Working.{DoesNothing}
 use Rattle.standstill_laws.specs.Counting.{TurnMade, AreMade, NoneIsMade, OneIsMade, tasks_after, NoStretchRests}
 use Rattle.standstill_laws.specs.Idle.{RunPages}
-use Rattle.ring_words.specs.declared.page.Role.TheVariants.{Server}
 use Rattle.standstill_laws.specs.Stretches.{turns_of}
 use Rattle.standstill_laws.specs.Leaving.{AgentStands, NoAgentLasts, IsFairTill, LeavingIsShort, WholeRunsAreBounded}
 use Rattle.standstill_laws.proofs.PaceLaws.{peer_was_there}
@@ -19,8 +20,6 @@ use Rattle.standstill_laws.proofs.StretchesLaws.{AgentTurn, agent_drain, agent_t
 use Rattle.standstill_laws.proofs.FairLaws.{split_at, at_front, at_back, made_split, turns_append, stretches_are_short_lem}
 use Rattle.standstill_laws.proofs.AnswerLaws.{count_more}
 use Rattle.standstill_laws.proofs.WorkLaws.{run_turns_are_bounded_lem}
-use Rattle.std.proofs.lemmas.Bool.Decides.{eqb_tells}
-use Rattle.std.specs.Prelude.{◌==◌}
 
 -- ---- one agent
 

@@ -2,8 +2,6 @@
 use Rattle.std.proofs.Common.{◌≡◌, ◌≢◌, ℕ, ◌+◌, suc, ◌≤◌, Bool, true, false, List, length, None, refl, sym, ap, ◌∙◌, subst, arith}
 use Rattle.ring_words.specs.declared.page.Role.{Role}
 use Rattle.ring_words.specs.declared.page.Role.TheVariants.{Server, Client}
-use Rattle.service_gate.specs.Owing.{builtin_owes}
-use Rattle.service_gate.specs.declared.builtin.Builtin.{Builtin}
 use Rattle.vchan_protocol.specs.declared.call.EndState.TheVariants.{Open, Shut}
 use Rattle.vchan_protocol.specs.declared.side.Side.{Side}
 use Rattle.vchan_protocol.specs.Table.Ends.{read_ring, written_ring}
@@ -12,17 +10,19 @@ use Rattle.vchan_protocol.specs.History.Core.{Core, side_of, standing_of}
 use Rattle.vchan_protocol.specs.History.Peer.{peer}
 use Rattle.vchan_rule.specs.Seated.{SeatedEnd, view}
 use Rattle.vchan_lifecycle.specs.Lifecycle.{FindsNotYet}
+use Rattle.service_gate.specs.Owing.{builtin_owes}
+use Rattle.service_gate.specs.declared.builtin.Builtin.{Builtin}
 use Rattle.qrexec_data.specs.CallerSide as caller
 use Rattle.qrexec_data.specs.CallerSide.{CallerState, CallerStandsFor}
 use Rattle.qrexec_data.specs.ServingSide as serving
 use Rattle.qrexec_data.specs.ServingSide.{ServingState, ServingStandsFor}
+use Rattle.qrexec_data.specs.Laws.{IsVersion}
 use Rattle.channel_session.specs.declared.pause.Turned.TheVariants.{Quiet, Passed}
 use Rattle.channel_session.specs.Turning.{Pace, IsQuiet, SendsNone, NothingWaits, WasShut, RingIsFull, PeerIsShut}
 use Rattle.channel_session.specs.Calling.{CallerAt, CallerTurns}
 use Rattle.channel_session.specs.Answering.{ServingAt, ServingTurns}
 use Rattle.agent_slots.specs.Sessions.{CallsWith, ServesWith}
 use Rattle.agent_slots.specs.Agreeing.{SessionStands}
-use Rattle.qrexec_data.specs.Laws.{IsVersion}
 use Rattle.standstill_laws.specs.Page.{FoundNothing, StandsStill}
 use Rattle.standstill_laws.specs.Turns.{SendsStill, IsQuietStill}
 use Rattle.standstill_laws.specs.Sessions.{IsGoneStill}

@@ -163,7 +163,7 @@ holder : (task : Task) (i : ℕ) (side : Side) → HoldsEnd task i side → Hold
 holder (Agent a) i side h = record { agent = a; is = refl; end = h.2; up = end_open a.plan.version (session_at a.sessions i) side h.0 h.1 h.2 }
 holder _ i side h = absurd h
 
-same_agent : (a b : AgentState) → Agent a ≡ Agent b → a ≡ b
+pub same_agent : (a b : AgentState) → Agent a ≡ Agent b → a ≡ b
 same_agent a b e = cc
 
 side_rested : (task task' : Task) (i : ℕ) (before now : Side) → RestsOn task task' → Holder task i before → Holder task' i now → (length now.got ≡ length before.got) × (length now.sent ≡ length before.sent)
@@ -309,7 +309,7 @@ line_holder : (task : Task) (place : ℕ) (side : Side) → HoldsLine task place
 line_holder (Broker b) place side h = record { broker = b; is = refl; line = h.0; there = h.1; end = h.2 }
 line_holder _ place side h = absurd h
 
-same_broker : (a b : BrokerState) → Broker a ≡ Broker b → a ≡ b
+pub same_broker : (a b : BrokerState) → Broker a ≡ Broker b → a ≡ b
 same_broker a b e = cc
 
 broker_rested : (task task' : Task) (place : ℕ) (before now : Side) → RestsOn task task' → LineHolder task place before → LineHolder task' place now

@@ -2,6 +2,7 @@
 use Rattle.std.proofs.Common.{◌≡◌, ◌≢◌, ℕ, ◌+◌, ◌<◌, ◌≤◌, true, false, List, Option, Some, None, refl, sym, ap, ◌∙◌, subst, arith}
 use Rattle.std.specs.Prelude.{IsSome}
 use Rattle.std.proofs.lemmas.Option.{none-some}
+use Rattle.std.specs.List.{AllZip as EachPair, AllByRecursion as Each}
 use Rattle.ring_words.specs.declared.page.Role.TheVariants.{Server, Client}
 use Rattle.vchan_protocol.specs.Answering.Loads.{loads_of}
 use Rattle.vchan_protocol.specs.History.Core.{standing_of}
@@ -9,22 +10,21 @@ use Rattle.vchan_protocol.specs.declared.call.EndState.{EndState}
 use Rattle.vchan_protocol.specs.declared.call.EndState.TheVariants.{Open, Shut}
 use Rattle.vchan_rule.specs.Seated.{SeatedEnd, view}
 use Rattle.vchan_lifecycle.specs.Lifecycle.{FindsNotYet}
+use Rattle.qrexec_frame.specs.declared.message.Message.{Message}
 use Rattle.call_broker.specs.Domains.{count_of}
-use Rattle.agent_slots.specs.Sessions.{Session, CallsWith, ServesWith, session_at}
-use Rattle.agent_control.specs.declared.control.AgentControl.{AgentControl}
-use Rattle.agent_control.specs.Stopping.{Stops}
-use Rattle.agent_task.specs.State.{AgentState}
 use Rattle.task_pool.specs.declared.task.Turn.TheVariants.{Again}
 use Rattle.channel_session.specs.Calling.{CallerAt}
 use Rattle.channel_session.specs.Answering.{ServingAt}
-use Rattle.qrexec_frame.specs.declared.message.Message.{Message}
-use Rattle.std.specs.List.{AllZip as EachPair, AllByRecursion as Each}
-use Rattle.domain_task.specs.Turning.{AgentTurns}
+use Rattle.agent_control.specs.declared.control.AgentControl.{AgentControl}
+use Rattle.agent_control.specs.Stopping.{Stops}
+use Rattle.agent_slots.specs.Sessions.{Session, CallsWith, ServesWith, session_at}
+use Rattle.agent_task.specs.State.{AgentState}
 use Rattle.agent_task.specs.Moving.{SaysNoMore, HasNotGreeted, WasNotGreeted, HasStopped, TurnsChannel, asked_at_most}
 use Rattle.broker_task.specs.Given.{BrokerState}
 use Rattle.broker_task.specs.Letters.{IsAt}
 use Rattle.broker_task.specs.Lines.{is_shut}
 use Rattle.broker_task.specs.Moving.{BrokerLine}
+use Rattle.domain_task.specs.Turning.{AgentTurns}
 use Rattle.domain_task.specs.declared.task.Task.{Task}
 use Rattle.domain_task.specs.declared.task.Task.TheVariants.{Agent, Broker}
 use Rattle.domain_task.specs.Working.{IsStill, ChannelRests, IsUp, WasOver, AgentRests, Rests, DoesNothing}
@@ -39,16 +39,10 @@ use Rattle.standstill_laws.specs.Resting.{DrainBetween}
 use Rattle.standstill_laws.specs.Idle.{Span, RunPages, HeardFound, ChannelFound, NoMoreFound, SaidFound, AsksNone, AgentFound, LinesFound, IsIdle, AgentIsIdle, BrokerIsIdle}
 use Rattle.standstill_laws.specs.Lasting.{SessionLasts, IsShut as StaysShut, AsCaller as CallsOnPage, AsServing as ServesOnPage, CallsAlone as CallsByItself, ServesAlone as ServesByItself, LineLasts, DomainLasts}
 use Rattle.standstill_laws.specs.Stretches.{turns_of, CallerStays, ServingStays, SessionStays, IsShut, AsCaller, AsServing, CallsAlone, ServesAlone, DomainStays, StretchRests, NoStretchLasts}
-use Rattle.standstill_laws.proofs.StretchLaws.{stretches_rest_lem, control_pages_rest_lem}
+use Rattle.standstill_laws.proofs.StretchLaws.{same_agent, same_broker, stretches_rest_lem, control_pages_rest_lem}
 use Rattle.standstill_laws.proofs.PaceLaws.{last_between}
 use Rattle.standstill_laws.proofs.IdleLaws.{idle_nothing, all_nothing, rests_then, last_turn, last_of_agent, last_of_broker, CallsOn, calls_on, ServesOnTo, serves_on, line_was, line_will, line_at}
 use Rattle.standstill_laws.proofs.LastingLaws.{no_run_lasts_lem}
-
-same_agent : (a b : AgentState) → Agent a ≡ Agent b → a ≡ b
-same_agent a b e = cc
-
-same_broker : (a b : BrokerState) → Broker a ≡ Broker b → a ≡ b
-same_broker a b e = cc
 
 -- ---- the last turn of an agent
 

@@ -11,8 +11,8 @@ use Rattle.channel_session.specs.declared.pause.Turned.{Turned}
 use Rattle.channel_session.specs.declared.pause.Turned.TheVariants.{Moved, Quiet, Passed}
 use Rattle.channel_session.specs.Calling.{CallerAt, CallerTurns}
 use Rattle.channel_session.specs.Answering.{ServingAt, ServingTurns}
-use Rattle.agent_slots.specs.Sessions.{Session, session_at}
 use Rattle.agent_control.specs.declared.control.AgentControl.{AgentControl}
+use Rattle.agent_slots.specs.Sessions.{Session, session_at}
 use Rattle.agent_task.specs.State.{AgentState}
 use Rattle.agent_task.specs.Moving.{SaysNoMore, HasNotGreeted, WasNotGreeted, HasStopped, TurnsChannel, asked_at_most}
 use Rattle.broker_task.specs.Given.{BrokerState}

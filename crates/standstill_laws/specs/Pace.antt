@@ -8,13 +8,13 @@ use Rattle.vchan_protocol.specs.Answering.Loads.{loads_of}
 use Rattle.vchan_protocol.specs.declared.side.Side.{Side}
 use Rattle.vchan_protocol.specs.History.Core.{Core, side_of, standing_of}
 use Rattle.vchan_rule.specs.Seated.{SeatedEnd}
+use Rattle.qrexec_data.specs.Laws.{IsVersion}
 use Rattle.channel_session.specs.declared.pause.Turned.TheVariants.{Quiet, Passed}
 use Rattle.channel_session.specs.Turning.{IsQuiet}
 use Rattle.channel_session.specs.Calling.{CallerAt, CallerTurns}
 use Rattle.channel_session.specs.Answering.{ServingAt, ServingTurns}
 use Rattle.agent_slots.specs.Sessions.{Session, CallsWith, ServesWith}
 use Rattle.agent_slots.specs.Agreeing.{SessionStands}
-use Rattle.qrexec_data.specs.Laws.{IsVersion}
 use Rattle.standstill_laws.specs.Page.{AreIndices}
 use Rattle.standstill_laws.specs.Turns.{SendsStill}
 use Rattle.standstill_laws.specs.Sessions.{IsGoneStill}

@@ -14,12 +14,12 @@ use Rattle.task_duties.specs.Words.{ident_of}
 use Rattle.task_duties.specs.Broker.Owes.{broker_version, awaited_of}
 use Rattle.task_duties.specs.declared.turn.TaskTurn.TheVariants as own
 use Rattle.task_duties.proofs.ServedLaw.{IsUnusedBy}
-use Rattle.control_port.specs.Port.{PortState}
-use Rattle.control_port.specs.declared.talk.Talker.TheVariants.{Broker as OfBroker}
 use Rattle.channel_session.specs.Calling.{CallerAt}
 use Rattle.channel_session.specs.Answering.{ServingAt}
-use Rattle.agent_slots.specs.Sessions.{Session, CallsWith, ServesWith, is_open, session_at}
+use Rattle.control_port.specs.Port.{PortState}
+use Rattle.control_port.specs.declared.talk.Talker.TheVariants.{Broker as OfBroker}
 use Rattle.agent_control.specs.declared.control.AgentControl.{AgentControl}
+use Rattle.agent_slots.specs.Sessions.{Session, CallsWith, ServesWith, is_open, session_at}
 use Rattle.agent_task.specs.State.{AgentState, TellsSoFar}
 use Rattle.agent_task.specs.Moving.{asked_at_most}
 use Rattle.broker_task.specs.Given.{BrokerState}
