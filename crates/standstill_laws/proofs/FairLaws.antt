@@ -4,7 +4,6 @@ use Rattle.std.specs.Prelude.{cond}
 use Rattle.std.specs.List.{AllByRecursion as Each}
 use Rattle.std.proofs.lemmas.Bool.Decides.{eqb_tells}
 use Rattle.std.proofs.lemmas.List.Sums.{sum_by-append}
-use Rattle.list_laws.proofs.Each.{each_append, each_front, each_back}
 use Rattle.call_broker.specs.Domains.{Domains, count_of}
 use Rattle.domain_task.specs.declared.task.Task.{Task}
 use Rattle.domain_task.specs.Working.{DoesNothing}
@@ -71,9 +70,6 @@ made_split many first last (x ∷ a) b (OneIsMade tasks last' made turns placed 
     let s = made_split many (tasks_after first x) last a b rest in
     record { mid = s.mid; front = OneIsMade first s.mid x a placed is s.front; back = s.back }
 
-head_is : (many : ℕ) (first last : ℕ → Task) (x : TurnMade) (turns : List TurnMade) → AreMade many first (x ∷ turns) last → first x.place ≡ x.before
-head_is many first last x turns (OneIsMade tasks last' made turns' placed is rest) = is
-
 -- ---- fairness
 
 -- in so many times the turns of a round each task has so many turns
@@ -91,33 +87,29 @@ pub stretches_are_short_lem : StretchesAreShort
 stretches_are_short_lem hub round first last turns made fair stand before resting after parts long nothing =
     let many = count_of hub + 1 in
     let did : TurnMade → Type 0 = λ (m : TurnMade). DoesNothing m.before m.now in
-    let s = split_at (8 * round) resting (omega (arith, long)) in
+    let s = split_at (7 * round) resting (omega (arith, long)) in
     let lengths = ap (λ (l : List TurnMade). length l) s.is ∙ length-append s.front s.back in
-    let back_long : length s.back ≡ round = omega (arith, long, lengths, s.long) in
-    let back = at_back turns before resting after s.front s.back parts s.is in
-    let f = first_turn 0 s.back (fair (before ++ s.front) s.back after back back_long 0 (omega arith)) in
+    let f = first_turn 0 s.back (fair (before ++ s.front) s.back after (at_back turns before resting after s.front s.back parts s.is) (omega (arith, long, lengths, s.long)) 0 (omega arith)) in
     let row : List TurnMade = s.front ++ f.before in
-    let later : List TurnMade = f.after ++ after in
-    let all : turns ≡ before ++ row ++ f.made ∷ later =
-    at_front turns (before ++ s.front) s.back after f.before (f.made ∷ f.after) back f.is ∙ ap (λ (l : List TurnMade). l ++ (f.made ∷ f.after ++ after)) (append_assoc before s.front f.before) in
-    let two = made_split many first last (before ++ row) (f.made ∷ later) (subst (λ (l : List TurnMade). AreMade many first l last) all made) in
-    let one = made_split many first two.mid before row two.front in
-    let rests = subst (Each did) s.is nothing in
-    let behind = subst (Each did) f.is (each_back did s.front s.back rests) in
-    let idle = each_append did s.front f.before (each_front did s.front s.back rests) (each_front did f.before (f.made ∷ f.after) behind) in
-    let next_is : two.mid 0 ≡ f.made.before = ap two.mid (sym f.place_is) ∙ head_is many two.mid last f.made later two.back in
-    let eight : (place : ℕ) → place < many → 8 ≤ turns_of place row =
-    λ place less. omega (arith, fair_rounds many round turns fair place less 8 before s.front (s.back ++ after) (at_front turns before resting after s.front s.back parts s.is) s.long, turns_append place s.front f.before) in
-    let so = stand before row later f.made one.mid two.mid all one.back next_is f.place_is eight idle (each_back did f.before (f.made ∷ f.after) behind).0 in
-    no_stretch_lasts_lem so.0 one.mid two.mid row f.made (record {
+    let all : resting ≡ row ++ f.made ∷ f.after = s.is ∙ ap (λ (l : List TurnMade). s.front ++ l) f.is ∙ sym (append_assoc s.front f.before (f.made ∷ f.after)) in
+    let two = made_split many first last (before ++ resting) after (subst (λ (l : List TurnMade). AreMade many first l last) parts made) in
+    let one = made_split many first two.mid before resting two.front in
+    let three = made_split many one.mid two.mid row (f.made ∷ f.after) (subst (λ (l : List TurnMade). AreMade many one.mid l two.mid) all one.back) in
+    let some : (place : ℕ) → place < many → 0 < turns_of place row =
+    λ place less. omega (arith, fair_rounds many round turns fair place less 7 before s.front (s.back ++ after) (at_front turns before resting after s.front s.back parts s.is) s.long, turns_append place s.front f.before) in
+    let eight : (place : ℕ) → place < many → 8 ≤ turns_of place (row ++ f.made ∷ f.after) =
+    λ place less. subst (λ (l : List TurnMade). 8 ≤ turns_of place l) all (fair_rounds many round turns fair place less 8 before resting after parts long) in
+    let so = stand before row f.after after f.made one.mid three.mid two.mid (parts ∙ ap (λ (l : List TurnMade). before ++ l ++ after) all) three.front three.back f.place_is (λ place less. (some place less, eight place less)) (subst (Each did) all nothing) in
+    no_stretch_lasts_lem so.0 one.mid three.mid two.mid row f.made f.after (record {
       so = so.1.0;
-      made = subst (λ (h : Domains). AreMade (count_of h + 1) one.mid row two.mid) (sym so.1.1) one.back;
+      made = subst (λ (h : Domains). AreMade (count_of h + 1) one.mid row three.mid) (sym so.1.1) three.front;
+      made_rest = subst (λ (h : Domains). AreMade (count_of h + 1) three.mid (f.made ∷ f.after) two.mid) (sym so.1.1) three.back;
       next_place = f.place_is;
-      next_is = next_is;
-      broker_turned = omega (arith, eight 0 (omega arith));
-      agents_turned = λ place less. eight (place + 1) (omega (arith, less, ap (λ (h : Domains). count_of h) so.1.1));
+      broker_turned = some 0 (omega arith);
+      agents_turned = λ place less. some (place + 1) (omega (arith, less, ap (λ (h : Domains). count_of h) so.1.1));
+      agents_turned_on = λ place less. eight (place + 1) (omega (arith, less, ap (λ (h : Domains). count_of h) so.1.1));
     })
 
 pub fair_runs_are_bounded_lem : FairRunsAreBounded
 fair_runs_are_bounded_lem hub round first last turns broker agents some made fair stand run =
-    run_turns_are_bounded_lem hub (9 * round) first last turns broker agents (omega (arith, some)) made (stretches_are_short_lem hub round first last turns made fair stand) run
+    run_turns_are_bounded_lem hub (8 * round) first last turns broker agents (omega (arith, some)) made (stretches_are_short_lem hub round first last turns made fair stand) run

@@ -20,7 +20,6 @@ use Rattle.domain_task.specs.declared.task.Task.TheVariants.{Agent, Broker}
 use Rattle.domain_task.specs.Turning.{AgentTurns}
 use Rattle.domain_task.specs.Working.{DoesNothing, SessionRests, CallerRests, ServingRests, PageAwaited, HasNotBegun, HadEnded, AgentRests, Rests}
 use Rattle.standstill_laws.specs.Counting.{TurnMade, tasks_after, AreMade, NoneIsMade, OneIsMade}
-use Rattle.standstill_laws.specs.Stretch.{RestsOn, NoTurn as NoneMade, OneTurn}
 use Rattle.standstill_laws.specs.Pace.{CallRests, NoTurn, QuietTurn, PassedTurn, ServingRests as ServesOn, NoServing, QuietServing, PassedServing}
 use Rattle.standstill_laws.specs.Idle.{Span, RunPages, CallFound, ServingFound, SessionFound, AgentFound, LineFound, LinesFound, IsIdle, AgentIsIdle, BrokerIsIdle}
 use Rattle.standstill_laws.specs.Stretches.{turns_of}
@@ -37,10 +36,6 @@ idle_nothing pages made (BrokerIsIdle before now turns works rests found) = rest
 pub all_nothing : (pages : RunPages) (turns : List TurnMade) → Each (IsIdle pages) turns → Each (λ (made : TurnMade). DoesNothing made.before made.now) turns
 all_nothing pages [] each = tt
 all_nothing pages (made ∷ turns) each = (idle_nothing pages made each.0, all_nothing pages turns each.1)
-
-pub rests_then : (first now last : Task) → RestsOn first now → DoesNothing now last → RestsOn first last
-rests_then first now last (NoneMade task) nothing = OneTurn task last last nothing (NoneMade last)
-rests_then first now last (OneTurn before next now' one rest) nothing = OneTurn before next last one (rests_then next now last rest nothing)
 
 -- one turn more is of this task, or it isn't
 abbrev is_of : ℕ → TurnMade → Bool

@@ -13,7 +13,7 @@ use Rattle.standstill_laws.proofs.PaceLaws.{no_session_rests_lem}
 use Rattle.standstill_laws.proofs.RestingLaws.{outboxes_are_empty_lem}
 use Rattle.standstill_laws.proofs.StandstillLaws.{runs_do_not_stand_still_lem}
 
-pub is_shut_now : (s : Session) → SessionLasts s → is_open s ≡ false
+is_shut_now : (s : Session) → SessionLasts s → is_open s ≡ false
 is_shut_now s (IsShut is) = is
 is_shut_now s (AsCaller first last c c' a a' is both) = absurd (no_session_rests_lem.both first last c c' a a' both)
 is_shut_now s (AsServing first last c c' a a' is both) = absurd (no_session_rests_lem.both first last c c' a a' both)

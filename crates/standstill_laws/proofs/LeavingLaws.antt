@@ -9,14 +9,13 @@ use Rattle.agent_slots.specs.Sessions.{session_at}
 use Rattle.agent_task.specs.State.{TellsSoFar}
 use Rattle.domain_task.specs.declared.task.Task.{Task}
 use Rattle.domain_task.specs.Working.{DoesNothing}
-use Rattle.standstill_laws.specs.Counting.{TurnMade, AreMade, NoneIsMade, OneIsMade, tasks_after, NoStretchRests}
+use Rattle.standstill_laws.specs.Counting.{TurnMade, AreMade, NoStretchRests}
 use Rattle.standstill_laws.specs.Idle.{RunPages}
 use Rattle.standstill_laws.specs.Stretches.{turns_of}
 use Rattle.standstill_laws.specs.Leaving.{AgentStands, NoAgentLasts, IsFairTill, LeavingIsShort, WholeRunsAreBounded}
 use Rattle.standstill_laws.proofs.PaceLaws.{peer_was_there}
 use Rattle.standstill_laws.proofs.StandstillLaws.{none_opened}
-use Rattle.standstill_laws.proofs.LastingLaws.{is_shut_now}
-use Rattle.standstill_laws.proofs.StretchesLaws.{AgentTurn, agent_drain, agent_turn, session_lasts}
+use Rattle.standstill_laws.proofs.StretchesLaws.{made_both, AgentTurn, agent_drain, agent_turn, session_shut}
 use Rattle.standstill_laws.proofs.FairLaws.{split_at, at_front, at_back, made_split, turns_append, stretches_are_short_lem}
 use Rattle.standstill_laws.proofs.AnswerLaws.{count_more}
 use Rattle.standstill_laws.proofs.WorkLaws.{run_turns_are_bounded_lem}
@@ -39,7 +38,7 @@ no_agent_rests pages many first now turns place made a long = by turn.turns.1.0
         let bad : true ≡ false = sym a.retired ∙ here in
         cc
     by (inr open_still) =
-        open_still (none_opened a.task a.task.opened tells.acts.opened (λ i. is_shut_now (session_at a.task.sessions i) (session_lasts pages many first now turns made a.idle (λ peer. 8 ≤ turns_of (peer + 1) turns) (λ peer is. is) place i a.task long a.is (a.sessions i))))
+        open_still (none_opened a.task a.task.opened tells.acts.opened (λ i. session_shut pages many first now turns made a.idle (λ peer. 8 ≤ turns_of (peer + 1) turns) (λ peer is. is) place i (session_at a.task.sessions i) long (a.sessions i)))
 
 pub no_agent_lasts_lem : NoAgentLasts
 no_agent_lasts_lem pages many first now turns place made a = omega (arith, λ (long : 8 ≤ turns_of (place + 1) turns). no_agent_rests pages many first now turns place made a long)
@@ -96,10 +95,6 @@ leaving_is_short_lem hub round first last turns made agents fair stand before re
 
 -- ---- two parts of a run
 
-made_both : (many : ℕ) (first mid last : ℕ → Task) (a b : List TurnMade) → AreMade many first a mid → AreMade many mid b last → AreMade many first (a ++ b) last
-made_both many first mid last [] b (NoneIsMade tasks) rest = rest
-made_both many first mid last (x ∷ a) b (OneIsMade tasks mid' made turns placed is rest) rest' = OneIsMade first last x (a ++ b) placed is (made_both many (tasks_after first x) mid last a b rest rest')
-
 -- two ways to cut one list in two
 record CutsBefore (a b p q : List TurnMade) : Type 0 where
   between : List TurnMade
@@ -138,7 +133,7 @@ whole_runs_are_bounded_lem hub round first mid last during afterwards broker age
     let many = count_of hub + 1 in
     let one = stretches_are_short_lem hub round first mid during run.made run.fair run.stands in
     let two = leaving_is_short_lem hub round mid last afterwards run.made_after run.agents run.fair_after run.stands_after in
-    let long : 9 * round + (8 * round + 1) ≡ 17 * round + 1 = omega arith in
-    let none = subst (λ (n : ℕ). NoStretchRests n (during ++ afterwards)) long (no_stretch_in_both (9 * round) (8 * round + 1) during afterwards one two) in
-    let few = run_turns_are_bounded_lem hub (17 * round + 1) first last (during ++ afterwards) broker agents (omega arith) (made_both many first mid last during afterwards run.made run.made_after) none honest in
+    let long : 8 * round + (8 * round + 1) ≡ 16 * round + 1 = omega arith in
+    let none = subst (λ (n : ℕ). NoStretchRests n (during ++ afterwards)) long (no_stretch_in_both (8 * round) (8 * round + 1) during afterwards one two) in
+    let few = run_turns_are_bounded_lem hub (16 * round + 1) first last (during ++ afterwards) broker agents (omega arith) (made_both many first mid last during afterwards run.made run.made_after) none honest in
     omega (arith, few, length-append during afterwards)

@@ -1,23 +1,24 @@
 -- A stretch of turns that did nothing tells all by which a run would be over.
-use Rattle.std.proofs.Common.{◌≡◌, ◌≢◌, ℕ, ◌+◌, ◌<◌, ◌≤◌, true, false, List, Option, Some, None, refl, sym, ap, ◌∙◌, subst, arith}
+use Rattle.std.proofs.Common.{◌≡◌, ◌≢◌, ℕ, ◌+◌, ◌<◌, ◌≤◌, true, false, List, [], ◌∷◌, ◌++◌, Option, Some, None, refl, sym, ap, ◌∙◌, subst, arith}
 use Rattle.std.specs.Prelude.{IsSome}
 use Rattle.std.proofs.lemmas.Option.{none-some}
 use Rattle.std.specs.List.{AllZip as EachPair, AllByRecursion as Each}
+use Rattle.list_laws.proofs.Each.{each_front, each_back}
 use Rattle.ring_words.specs.declared.page.Role.TheVariants.{Server, Client}
+use Rattle.vchan_protocol.specs.declared.side.Side.{Side}
 use Rattle.vchan_protocol.specs.Answering.Loads.{loads_of}
 use Rattle.vchan_protocol.specs.History.Core.{standing_of}
 use Rattle.vchan_protocol.specs.declared.call.EndState.{EndState}
 use Rattle.vchan_protocol.specs.declared.call.EndState.TheVariants.{Open, Shut}
 use Rattle.vchan_rule.specs.Seated.{SeatedEnd, view}
 use Rattle.vchan_lifecycle.specs.Lifecycle.{FindsNotYet}
-use Rattle.qrexec_frame.specs.declared.message.Message.{Message}
 use Rattle.call_broker.specs.Domains.{count_of}
 use Rattle.task_pool.specs.declared.task.Turn.TheVariants.{Again}
 use Rattle.channel_session.specs.Calling.{CallerAt}
 use Rattle.channel_session.specs.Answering.{ServingAt}
 use Rattle.agent_control.specs.declared.control.AgentControl.{AgentControl}
 use Rattle.agent_control.specs.Stopping.{Stops}
-use Rattle.agent_slots.specs.Sessions.{Session, CallsWith, ServesWith, session_at}
+use Rattle.agent_slots.specs.Sessions.{Session, CallsWith, ServesWith, is_open, session_at}
 use Rattle.agent_task.specs.State.{AgentState}
 use Rattle.agent_task.specs.Moving.{SaysNoMore, HasNotGreeted, WasNotGreeted, HasStopped, TurnsChannel, asked_at_most}
 use Rattle.broker_task.specs.Given.{BrokerState}
@@ -26,22 +27,22 @@ use Rattle.broker_task.specs.Lines.{is_shut}
 use Rattle.broker_task.specs.Moving.{BrokerLine}
 use Rattle.domain_task.specs.Turning.{AgentTurns}
 use Rattle.domain_task.specs.declared.task.Task.{Task}
-use Rattle.domain_task.specs.declared.task.Task.TheVariants.{Agent, Broker}
-use Rattle.domain_task.specs.Working.{IsStill, ChannelRests, IsUp, WasOver, AgentRests, Rests, DoesNothing}
+use Rattle.domain_task.specs.declared.task.Task.TheVariants.{Agent, Broker, Hostile}
+use Rattle.domain_task.specs.Working.{IsStill, ChannelRests, IsUp, WasOver, AgentRests, Rests}
 use Rattle.standstill_laws.specs.Saying.{StopsStill}
 use Rattle.standstill_laws.specs.Sessions.{IsGoneStill}
-use Rattle.standstill_laws.specs.Counting.{TurnMade, AreMade}
+use Rattle.standstill_laws.specs.Counting.{TurnMade, tasks_after, AreMade, NoneIsMade, OneIsMade}
 use Rattle.standstill_laws.specs.Keeping.{PageRested}
 use Rattle.standstill_laws.specs.Stretch.{AreMoments, HoldsControl}
 use Rattle.standstill_laws.specs.Moments.{WasSo}
 use Rattle.standstill_laws.specs.Pace.{CallRests, ServingRests, BothRest}
 use Rattle.standstill_laws.specs.Resting.{DrainBetween}
 use Rattle.standstill_laws.specs.Idle.{Span, RunPages, HeardFound, ChannelFound, NoMoreFound, SaidFound, AsksNone, AgentFound, LinesFound, IsIdle, AgentIsIdle, BrokerIsIdle}
-use Rattle.standstill_laws.specs.Lasting.{SessionLasts, IsShut as StaysShut, AsCaller as CallsOnPage, AsServing as ServesOnPage, CallsAlone as CallsByItself, ServesAlone as ServesByItself, LineLasts, DomainLasts}
+use Rattle.standstill_laws.specs.Lasting.{IsShut as StaysShut, LineLasts, DomainLasts}
 use Rattle.standstill_laws.specs.Stretches.{turns_of, CallerStays, ServingStays, SessionStays, IsShut, AsCaller, AsServing, CallsAlone, ServesAlone, DomainStays, StretchRests, NoStretchLasts}
 use Rattle.standstill_laws.proofs.StretchLaws.{same_agent, same_broker, stretches_rest_lem, control_pages_rest_lem}
-use Rattle.standstill_laws.proofs.PaceLaws.{last_between}
-use Rattle.standstill_laws.proofs.IdleLaws.{idle_nothing, all_nothing, rests_then, last_turn, last_of_agent, last_of_broker, CallsOn, calls_on, ServesOnTo, serves_on, line_was, line_will, line_at}
+use Rattle.standstill_laws.proofs.PaceLaws.{last_between, no_session_rests_lem}
+use Rattle.standstill_laws.proofs.IdleLaws.{all_nothing, last_turn, last_of_agent, last_of_broker, CallsOn, calls_on, ServesOnTo, serves_on, line_was, line_will, line_at}
 use Rattle.standstill_laws.proofs.LastingLaws.{no_run_lasts_lem}
 
 -- ---- the last turn of an agent
@@ -98,7 +99,19 @@ agent_stops span pages o n turns found none channel is greeted version =
     let stops : HasStops span (asked_at_most pages) (Some channel) = subst (HasStops span (asked_at_most pages)) is (stops_in span pages o n turns found none ready) in
     stops
 
--- ---- the turns of a stretch, by what they lead to
+-- ---- the tasks of a stretch
+
+pub head_is : (many : ℕ) (first last : ℕ → Task) (x : TurnMade) (turns : List TurnMade) → AreMade many first (x ∷ turns) last → first x.place ≡ x.before
+head_is many first last x turns (OneIsMade tasks last' made turns' placed is rest) = is
+
+pub made_both : (many : ℕ) (first mid last : ℕ → Task) (a b : List TurnMade) → AreMade many first a mid → AreMade many mid b last → AreMade many first (a ++ b) last
+made_both many first mid last [] b (NoneIsMade tasks) rest = rest
+made_both many first mid last (x ∷ a) b (OneIsMade tasks mid' made turns placed is rest) rest' = OneIsMade first last x (a ++ b) placed is (made_both many (tasks_after first x) mid last a b rest rest')
+
+whole : (pages : RunPages) (first now last : ℕ → Task) (turns : List TurnMade) (next : TurnMade) (rest : List TurnMade) → (r : StretchRests pages first now last turns next rest) → AreMade (count_of r.so.broker.hub + 1) first (turns ++ next ∷ rest) last
+whole pages first now last turns next rest r = made_both (count_of r.so.broker.hub + 1) first now last turns (next ∷ rest) r.made r.made_rest
+
+-- ---- its turns, by what they lead to
 
 record TurnTo (pages : RunPages) (now : BrokerState) : Type 0 where
   before : BrokerState
@@ -115,18 +128,18 @@ pub record AgentTurn (pages : RunPages) (place : ℕ) (now : AgentState) : Type 
   pub rests : AgentRests before now
   pub found : AgentFound pages place before now turns rests
 
-turn_to : (pages : RunPages) (first now : ℕ → Task) (turns : List TurnMade) (next : TurnMade) → (r : StretchRests pages first now turns next) → TurnTo pages r.so.broker
-turn_to pages first now turns next r =
-    let last = last_of_broker pages (now 0) (last_turn pages (count_of r.so.broker.hub + 1) first now turns r.made r.so.idle 0 r.broker_turned) in
-    subst (λ (b : BrokerState). TurnTo pages b) (same_broker last.now r.so.broker (sym last.is ∙ r.so.is)) (record { before = last.before; rests = last.rests; found = last.found })
+turn_to : (pages : RunPages) (first now last : ℕ → Task) (turns : List TurnMade) (next : TurnMade) (rest : List TurnMade) → (r : StretchRests pages first now last turns next rest) → TurnTo pages r.so.broker
+turn_to pages first now last turns next rest r =
+    let turn = last_of_broker pages (now 0) (last_turn pages (count_of r.so.broker.hub + 1) first now turns r.made (each_front (IsIdle pages) turns (next ∷ rest) r.so.idle) 0 r.broker_turned) in
+    subst (λ (b : BrokerState). TurnTo pages b) (same_broker turn.now r.so.broker (sym turn.is ∙ r.so.is)) (record { before = turn.before; rests = turn.rests; found = turn.found })
 
 turn_of : (pages : RunPages) (broker then : BrokerState) (made : TurnMade) → IsIdle pages made → made.place ≡ 0 → made.before ≡ Broker broker → made.now ≡ Broker then → TurnFrom pages broker then
 turn_of pages broker then made (AgentIsIdle at before now turns works rests found) placed was is = absurd (omega (arith, placed))
 turn_of pages broker then made (BrokerIsIdle before now turns works rests found) placed was is =
     subst (λ (b : BrokerState). TurnFrom pages b then) (same_broker before broker was) (subst (λ (b : BrokerState). TurnFrom pages before b) (same_broker now then is) (record { rests = rests; found = found }))
 
-turn_from : (pages : RunPages) (first now : ℕ → Task) (turns : List TurnMade) (next : TurnMade) → (r : StretchRests pages first now turns next) → TurnFrom pages r.so.broker r.so.then
-turn_from pages first now turns next r = turn_of pages r.so.broker r.so.then next r.so.next_idle r.next_place (sym r.next_is ∙ r.so.is) r.so.then_is
+turn_from : (pages : RunPages) (first now last : ℕ → Task) (turns : List TurnMade) (next : TurnMade) (rest : List TurnMade) → (r : StretchRests pages first now last turns next rest) → TurnFrom pages r.so.broker r.so.then
+turn_from pages first now last turns next rest r = turn_of pages r.so.broker r.so.then next (each_back (IsIdle pages) turns (next ∷ rest) r.so.idle).0 r.next_place (sym (head_is (count_of r.so.broker.hub + 1) now last next rest r.made_rest) ∙ ap now r.next_place ∙ r.so.is) r.so.then_is
 
 pub agent_turn : (pages : RunPages) (many : ℕ) (first now : ℕ → Task) (turns : List TurnMade) → AreMade many first turns now → Each (IsIdle pages) turns → (place : ℕ) (task : AgentState) → 0 < turns_of (place + 1) turns → now (place + 1) ≡ Agent task → AgentTurn pages place task
 agent_turn pages many first now turns made idle place task some is =
@@ -177,59 +190,53 @@ both_so pages many first now turns made idle span place i peer j mine yours long
   serving_last = s.is_held;
 }
 
-pub session_lasts : (pages : RunPages) (many : ℕ) (first now : ℕ → Task) (turns : List TurnMade) → AreMade many first turns now → Each (IsIdle pages) turns → (IsPeer : ℕ → Type 0) → ((peer : ℕ) → IsPeer peer → 8 ≤ turns_of (peer + 1) turns) → (place i : ℕ) (task : AgentState) → 8 ≤ turns_of (place + 1) turns → now (place + 1) ≡ Agent task
-    → SessionStays pages first now IsPeer place i (session_at task.sessions i) → SessionLasts (session_at task.sessions i)
-session_lasts pages many first now turns made idle IsPeer peers place i task long is (IsShut shut) = StaysShut shut
-session_lasts pages many first now turns made idle IsPeer peers place i task long is (AsCaller peer j below same moments c s) =
-    let one : task ≡ c.new = same_agent task c.new (sym is ∙ c.is) in
-    CallsOnPage (pages.session place i).first (pages.session place i).last c.from c.to s.from s.to (ap (λ (a : AgentState). session_at a.sessions i) one ∙ c.is_so)
-    (both_so pages many first now turns made idle (pages.session place i) place i peer j refl same long (peers peer below) moments c s)
-session_lasts pages many first now turns made idle IsPeer peers place i task long is (AsServing peer j below same moments c s) =
-    let one : task ≡ s.new = same_agent task s.new (sym is ∙ s.is) in
-    ServesOnPage (pages.session place i).first (pages.session place i).last c.from c.to s.from s.to (ap (λ (a : AgentState). session_at a.sessions i) one ∙ s.is_so)
-    (both_so pages many first now turns made idle (pages.session place i) peer j place i same refl (peers peer below) long moments c s)
-session_lasts pages many first now turns made idle IsPeer peers place i task long is (CallsAlone c retired) =
-    let one : task ≡ c.new = same_agent task c.new (sym is ∙ c.is) in
-    CallsByItself (pages.session place i).first (pages.session place i).last (turns_of (place + 1) turns) c.from c.to (ap (λ (a : AgentState). session_at a.sessions i) one ∙ c.is_so)
-    (calls_so pages many first now turns made idle (pages.session place i) place i refl c) long retired
-session_lasts pages many first now turns made idle IsPeer peers place i task long is (ServesAlone s retired) =
-    let one : task ≡ s.new = same_agent task s.new (sym is ∙ s.is) in
-    ServesByItself (pages.session place i).first (pages.session place i).last (turns_of (place + 1) turns) s.from s.to (ap (λ (a : AgentState). session_at a.sessions i) one ∙ s.is_so)
-    (serves_so pages many first now turns made idle (pages.session place i) place i refl s) long retired
+-- a session that stays so isn't open
+pub session_shut : (pages : RunPages) (many : ℕ) (first now : ℕ → Task) (turns : List TurnMade) → AreMade many first turns now → Each (IsIdle pages) turns → (IsPeer : ℕ → Type 0) → ((peer : ℕ) → IsPeer peer → 8 ≤ turns_of (peer + 1) turns) → (place i : ℕ) (s : Session)
+    → 8 ≤ turns_of (place + 1) turns → SessionStays pages first now IsPeer place i s → is_open s ≡ false
+session_shut pages many first now turns made idle IsPeer peers place i s long (IsShut shut) = shut
+session_shut pages many first now turns made idle IsPeer peers place i s long (AsCaller peer j below same moments a b) =
+    absurd (no_session_rests_lem.both (pages.session place i).first (pages.session place i).last a.from a.to b.from b.to (both_so pages many first now turns made idle (pages.session place i) place i peer j refl same long (peers peer below) moments a b))
+session_shut pages many first now turns made idle IsPeer peers place i s long (AsServing peer j below same moments a b) =
+    absurd (no_session_rests_lem.both (pages.session place i).first (pages.session place i).last a.from a.to b.from b.to (both_so pages many first now turns made idle (pages.session place i) peer j place i same refl (peers peer below) long moments a b))
+session_shut pages many first now turns made idle IsPeer peers place i s long (CallsAlone a retired) =
+    let rests = calls_so pages many first now turns made idle (pages.session place i) place i refl a in
+    absurd (let bad : true ≡ false = sym retired ∙ no_session_rests_lem.caller (pages.session place i).first (pages.session place i).last (turns_of (place + 1) turns) a.from a.to rests long in cc)
+session_shut pages many first now turns made idle IsPeer peers place i s long (ServesAlone b retired) =
+    let rests = serves_so pages many first now turns made idle (pages.session place i) place i refl b in
+    absurd (let bad : true ≡ false = sym retired ∙ no_session_rests_lem.serving (pages.session place i).first (pages.session place i).last (turns_of (place + 1) turns) b.from b.to rests long in cc)
 
 -- ---- a domain
 
-control_rested : (pages : RunPages) (first now : ℕ → Task) (turns : List TurnMade) (next : TurnMade) → (r : StretchRests pages first now turns next) → (place : ℕ) (line : BrokerLine) → DomainStays pages first now r.so.broker r.so.then next.now r.so.stands.0.said place line
+control_rested : (pages : RunPages) (first now last : ℕ → Task) (turns : List TurnMade) (next : TurnMade) (rest : List TurnMade) → (r : StretchRests pages first now last turns next rest) → (place : ℕ) (line : BrokerLine) → DomainStays pages first now last r.so.broker r.so.then r.so.stands.0.said place line
     → PageRested (pages.control place).first (pages.control place).last
-control_rested pages first now turns next r place line d =
-    let many = count_of r.so.broker.hub + 1 in
-    let each = all_nothing pages turns r.so.idle in
-    let nothing = subst (λ (t : Task). DoesNothing t next.now) (sym r.next_is) (idle_nothing pages next r.so.next_idle) in
-    control_pages_rest_lem (pages.control place).first (pages.control place).last (first (place + 1)) (now (place + 1)) (first 0) next.now place d.moments (stretches_rest_lem many first now turns r.made each (place + 1))
-    (rests_then (first 0) (now 0) next.now (stretches_rest_lem many first now turns r.made each 0) nothing) d.begins_open d.agent_first d.broker_first d.agent_last d.broker_last
+control_rested pages first now last turns next rest r place line d =
+    let all = turns ++ next ∷ rest in
+    let rests = stretches_rest_lem (count_of r.so.broker.hub + 1) first last all (whole pages first now last turns next rest r) (all_nothing pages all r.so.idle) in
+    control_pages_rest_lem (pages.control place).first (pages.control place).last (first (place + 1)) (last (place + 1)) (first 0) (last 0) place d.moments (rests (place + 1)) (rests 0) d.begins_open d.agent_first d.broker_first d.agent_last d.broker_last
 
--- the agent of a control page at the last moment
-agent_holds : (pages : RunPages) (first now : ℕ → Task) (broker then : BrokerState) (next : Task) (said : ℕ → List Message) (place : ℕ) (line : BrokerLine) → (d : DomainStays pages first now broker then next said place line) → HoldsControl (Agent d.task) (pages.control place).last.server
-agent_holds pages first now broker then next said place line d = subst (λ (t : Task). HoldsControl t (pages.control place).last.server) d.task_is d.agent_last
+-- the agent's end of a control page is open
+agent_open : (task : Task) (side : Side) → HoldsControl task side → side.state ≡ Open
+agent_open (Agent a) side h = h.2
+agent_open (Broker b) side h = absurd h
+agent_open (Hostile t) side h = absurd h
 
 not_shut : (state : EndState) → state ≡ Open → state ≢ Shut
 not_shut state up is = let bad : Open ≡ Shut = sym up ∙ is in cc
 
-within : (pages : RunPages) (first now : ℕ → Task) (turns : List TurnMade) (next : TurnMade) → (r : StretchRests pages first now turns next) → (place : ℕ) (line : BrokerLine) → IsAt r.so.broker.lines place line → place < count_of r.so.broker.hub
-within pages first now turns next r place line there = omega (arith, there.within, r.so.lines)
+within : (pages : RunPages) (first now last : ℕ → Task) (turns : List TurnMade) (next : TurnMade) (rest : List TurnMade) → (r : StretchRests pages first now last turns next rest) → (place : ℕ) (line : BrokerLine) → IsAt r.so.broker.lines place line → place < count_of r.so.broker.hub
+within pages first now last turns next rest r place line there = omega (arith, there.within, r.so.lines)
 
-line_lasts : (pages : RunPages) (first now : ℕ → Task) (turns : List TurnMade) (next : TurnMade) → (r : StretchRests pages first now turns next) → (place : ℕ) (line : BrokerLine) → IsAt r.so.broker.lines place line
-    → LineLasts (turn_to pages first now turns next r).before.lines r.so.then.lines place line
-line_lasts pages first now turns next r place line there =
+line_lasts : (pages : RunPages) (first now last : ℕ → Task) (turns : List TurnMade) (next : TurnMade) (rest : List TurnMade) → (r : StretchRests pages first now last turns next rest) → (place : ℕ) (line : BrokerLine) → IsAt r.so.broker.lines place line
+    → LineLasts (turn_to pages first now last turns next rest r).before.lines r.so.then.lines place line
+line_lasts pages first now last turns next rest r place line there =
     let d = r.so.domains place line there in
-    let to = turn_to pages first now turns next r in
-    let from = turn_from pages first now turns next r in
+    let to = turn_to pages first now last turns next rest r in
+    let from = turn_from pages first now last turns next rest r in
     let was = line_was pages.control to.before.lines r.so.broker.lines to.rests to.found place line there in
     let will = line_will pages.control r.so.broker.lines r.so.then.lines from.rests from.found place line there in
-    let rested = control_rested pages first now turns next r place line d in
-    let holds = agent_holds pages first now r.so.broker r.so.then next.now r.so.stands.0.said place line d in
-    let turned = agent_turn pages (count_of r.so.broker.hub + 1) first now turns r.made r.so.idle place d.task (omega (arith, r.agents_turned place (within pages first now turns next r place line there))) d.task_is in
-    let drain = agent_drain (pages.control place) turned.before d.task turned.rests.channel turned.found.heard holds.0 in
+    let rested = control_rested pages first now last turns next rest r place line d in
+    let turned = agent_turn pages (count_of r.so.broker.hub + 1) first now turns r.made (each_front (IsIdle pages) turns (next ∷ rest) r.so.idle) place d.task (r.agents_turned place (within pages first now last turns next rest r place line there)) d.task_is in
+    let drain = agent_drain (pages.control place) turned.before d.task turned.rests.channel turned.found.heard d.over in
     let new_up : is_shut (view will.new.end).state ≡ false = will.rests.shut ∙ d.up in
     record {
       rests = record {
@@ -245,7 +252,7 @@ line_lasts pages first now turns next r place line there =
         last = (pages.control place).last;
         to_last = last_between (pages.control place).first (pages.control place).last d.moments rested;
         rested = rested;
-        server_up = not_shut (pages.control place).last.server.state holds.2;
+        server_up = not_shut (pages.control place).last.server.state (agent_open (last (place + 1)) (pages.control place).last.server d.agent_last);
         client_up = not_shut (pages.control place).last.client.state ((rested.ends Client).state ∙ d.begins_open);
         turn_found = was.found d.up;
         next_found = will.found new_up;
@@ -260,15 +267,14 @@ line_lasts pages first now turns next r place line there =
       version = d.version;
     }
 
-domain_lasts : (pages : RunPages) (first now : ℕ → Task) (turns : List TurnMade) (next : TurnMade) → (r : StretchRests pages first now turns next) → (place : ℕ) → place < count_of r.so.broker.hub
-    → DomainLasts (turn_to pages first now turns next r).before r.so.broker r.so.then r.so.stands.0.said (line_lasts pages first now turns next r) place
+domain_lasts : (pages : RunPages) (first now last : ℕ → Task) (turns : List TurnMade) (next : TurnMade) (rest : List TurnMade) → (r : StretchRests pages first now last turns next rest) → (place : ℕ) → place < count_of r.so.broker.hub
+    → DomainLasts (turn_to pages first now last turns next rest r).before r.so.broker r.so.then r.so.stands.0.said (line_lasts pages first now last turns next rest r) place
 unfolding line_lasts
-domain_lasts pages first now turns next r place less =
+domain_lasts pages first now last turns next rest r place less =
     let l = line_at r.so.broker.lines place (omega (arith, less, r.so.lines)) in
     let d = r.so.domains place l.0 l.1 in
-    let holds = agent_holds pages first now r.so.broker r.so.then next.now r.so.stands.0.said place l.0 d in
-    let turned = agent_turn pages (count_of r.so.broker.hub + 1) first now turns r.made r.so.idle place d.task (omega (arith, r.agents_turned place less)) d.task_is in
-    let stops = agent_stops (pages.control place) d.task.pages turned.before.channel d.task.channel (turned.turns.1.2 holds.0) (turned.found.said holds.0) turned.found.asks_none d.channel d.channel_is d.agent_greeted d.agent_version in
+    let turned = agent_turn pages (count_of r.so.broker.hub + 1) first now turns r.made (each_front (IsIdle pages) turns (next ∷ rest) r.so.idle) place d.task (r.agents_turned place less) d.task_is in
+    let stops = agent_stops (pages.control place) d.task.pages turned.before.channel d.task.channel (turned.turns.1.2 d.over) (turned.found.said d.over) turned.found.asks_none d.channel d.channel_is d.agent_greeted d.agent_version in
     record {
       line = l.0;
       there = l.1;
@@ -285,7 +291,7 @@ domain_lasts pages first now turns next r place less =
         tells = d.tells;
         channel = d.channel;
         channel_is = d.channel_is;
-        up = holds.0;
+        up = d.over;
         end = d.end;
         differ = d.differ;
         given = d.given;
@@ -296,10 +302,11 @@ domain_lasts pages first now turns next r place less =
         stops = stops.stops;
         found = stops.found;
         none_asked = stops.none_asked;
-        sessions = λ i. session_lasts pages (count_of r.so.broker.hub + 1) first now turns r.made r.so.idle (λ peer. peer < count_of r.so.broker.hub) r.agents_turned place i d.task (r.agents_turned place less) d.task_is (d.sessions i);
+        sessions = λ i.
+            StaysShut (session_shut pages (count_of r.so.broker.hub + 1) first last (turns ++ next ∷ rest) (whole pages first now last turns next rest r) r.so.idle (λ peer. peer < count_of r.so.broker.hub) r.agents_turned_on place i (session_at d.task.sessions i) (r.agents_turned_on place less) (d.sessions i));
       };
     }
 
 pub no_stretch_lasts_lem : NoStretchLasts
-no_stretch_lasts_lem pages first now turns next r =
-    no_run_lasts_lem (turn_to pages first now turns next r).before r.so.broker r.so.then (record { stands = r.so.stands; grown = r.so.grown; undropped = r.so.undropped; lines = line_lasts pages first now turns next r; domains = domain_lasts pages first now turns next r })
+no_stretch_lasts_lem pages first now last turns next rest r =
+    no_run_lasts_lem (turn_to pages first now last turns next rest r).before r.so.broker r.so.then (record { stands = r.so.stands; grown = r.so.grown; undropped = r.so.undropped; lines = line_lasts pages first now last turns next rest r; domains = domain_lasts pages first now last turns next rest r })

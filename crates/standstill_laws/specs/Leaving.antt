@@ -58,4 +58,4 @@ pub record IsFairRun (hub : Domains) (round : ℕ) (first mid last : ℕ → Tas
 
 abbrev pub WholeRunsAreBounded : Type 0
 WholeRunsAreBounded = (hub : Domains) (round : ℕ) (first mid last : ℕ → Task) (during afterwards : List TurnMade) (broker : BrokerState) (agents : ℕ → AgentState) → IsFairRun hub round first mid last during afterwards
-    → IsHonestRun hub last broker agents → length during + length afterwards < (run_work hub agents + 1) * (17 * round + 1)
+    → IsHonestRun hub last broker agents → length during + length afterwards < (run_work hub agents + 1) * (16 * round + 1)

@@ -1,6 +1,6 @@
 -- How many turns in a row of a run between honest domains may all do nothing while its broker goes on.
 -- Source: this project's own.
-use Rattle.std.specs.Prelude.{◌≡◌, ℕ, ◌+◌, ◌*◌, ◌<◌, ◌≤◌, ◌==◌, true, false, List, ◌∷◌, ◌++◌, length, map, Some, IsSome}
+use Rattle.std.specs.Prelude.{◌≡◌, ℕ, ◌+◌, ◌*◌, ◌<◌, ◌≤◌, ◌==◌, true, false, List, ◌∷◌, ◌++◌, length, map, Some, None, IsSome}
 use Rattle.std.specs.List.{count_by, AllByRecursion as Each}
 use Rattle.list_laws.specs.Lists.{AreDifferent}
 use Rattle.ring_words.specs.declared.page.Role.TheVariants.{Client}
@@ -88,15 +88,15 @@ pub data SessionStays (pages : RunPages) (first now : ℕ → Task) (IsPeer : �
 
 -- ---- a domain
 
--- the domain behind this place, of which the broker keeps this between its last turn of the stretch and its next one, after which it is `then`
-pub record DomainStays (pages : RunPages) (first now : ℕ → Task) (broker then : BrokerState) (next : Task) (said : ℕ → List Message) (place : ℕ) (line : BrokerLine) : Type 0 where
-  -- the ends of its control page at the first moment and at the last, and at the moment between the broker's two turns
+-- the domain behind this place, of which the broker keeps this between two of its turns in a stretch, after the second of which it is `then`
+pub record DomainStays (pages : RunPages) (first now last : ℕ → Task) (broker then : BrokerState) (said : ℕ → List Message) (place : ℕ) (line : BrokerLine) : Type 0 where
+  -- the ends of its control page at the first moment and at the last, and at one between the broker's two turns
   pub moments : AreMoments (pages.control place).first (pages.control place).last
   pub begins_open : (pages.control place).first.client.state ≡ Open
   pub agent_first : HoldsControl (first (place + 1)) (pages.control place).first.server
   pub broker_first : HoldsLine (first 0) place (pages.control place).first.client
-  pub agent_last : HoldsControl (now (place + 1)) (pages.control place).last.server
-  pub broker_last : HoldsLine next place (pages.control place).last.client
+  pub agent_last : HoldsControl (last (place + 1)) (pages.control place).last.server
+  pub broker_last : HoldsLine (last 0) place (pages.control place).last.client
   pub core : Core
   pub between : IsBetween (pages.control place).first (pages.control place).last core
   -- it isn't dropped, and both have greeted
@@ -111,11 +111,12 @@ pub record DomainStays (pages : RunPages) (first now : ℕ → Task) (broker the
   pub attended : IsAttended broker.hub broker.journal said (place + 1) (record { view = view port.end; gone = port.end.side.notes.gone })
   pub heard : List Message
   pub talks : Talks core Client OfBroker port (said (place + 1)) heard
-  -- its agent, which might ask for a call
+  -- its agent, whose channel is up, and which might ask for a call
   pub task : AgentState
   pub task_is : now (place + 1) ≡ Agent task
   pub domain : task.plan.domain ≡ place + 1
   pub count : length task.plan.calls ≡ awaited_of broker.awaited (place + 1)
+  pub over : task.over ≡ None
   pub tells : TellsSoFar task
   pub channel : AgentControl
   pub channel_is : task.channel ≡ Some channel
@@ -126,37 +127,37 @@ pub record DomainStays (pages : RunPages) (first now : ℕ → Task) (broker the
   pub differ : AreDifferent (map (λ call. ident_of call.number) task.plan.calls)
   pub given : Each (IsUnusedBy task.plan.domain task.plan.places) (heard_so_far task)
   pub order : AreSentInOrder broker.hub broker.journal task.plan.domain tells.once.said
-  pub sessions : (i : ℕ) → SessionStays pages first now (λ peer. peer < count_of broker.hub) place i (session_at task.sessions i)
+  pub sessions : (i : ℕ) → SessionStays pages first last (λ peer. peer < count_of broker.hub) place i (session_at task.sessions i)
 
 -- ---- a stretch
 
--- so stand the tasks and their pages in a stretch of turns that all did nothing, and in the broker's next turn, which did nothing either
-pub record StretchStands (pages : RunPages) (first now : ℕ → Task) (turns : List TurnMade) (next : TurnMade) : Type 0 where
+-- so stand the tasks and their pages in turns that all did nothing: at the first moment, right before a turn of the broker, and at the last moment
+pub record StretchStands (pages : RunPages) (first now last : ℕ → Task) (turns : List TurnMade) (next : TurnMade) (rest : List TurnMade) : Type 0 where
+  pub idle : Each (IsIdle pages) (turns ++ next ∷ rest)
   pub broker : BrokerState
   pub is : now 0 ≡ Broker broker
   pub then : BrokerState
   pub then_is : next.now ≡ Broker then
-  pub idle : Each (IsIdle pages) turns
-  pub next_idle : IsIdle pages next
-  -- what the contract says of the broker after its last turn of the stretch, and what no contract says
+  -- what the contract says of the broker after its turn before that one, and what no contract says
   pub stands : StandsAfter (own.Again broker)
   pub lines : length broker.lines ≡ count_of broker.hub
   pub grown : HasGrown broker.hub broker.journal
   pub undropped : (d : ℕ) → is_dropped broker.journal d ≡ false
-  pub domains : (place : ℕ) (line : BrokerLine) → IsAt broker.lines place line → DomainStays pages first now broker then next.now stands.0.said place line
+  pub domains : (place : ℕ) (line : BrokerLine) → IsAt broker.lines place line → DomainStays pages first now last broker then stands.0.said place line
 
--- one of the turns was the broker's, and eight were those of each agent
-pub record StretchRests (pages : RunPages) (first now : ℕ → Task) (turns : List TurnMade) (next : TurnMade) : Type 0 where
-  pub so : StretchStands pages first now turns next
+-- before that turn the broker and each agent made one, and eight of all the turns are those of each agent
+pub record StretchRests (pages : RunPages) (first now last : ℕ → Task) (turns : List TurnMade) (next : TurnMade) (rest : List TurnMade) : Type 0 where
+  pub so : StretchStands pages first now last turns next rest
   pub made : AreMade (count_of so.broker.hub + 1) first turns now
+  pub made_rest : AreMade (count_of so.broker.hub + 1) now (next ∷ rest) last
   pub next_place : next.place ≡ 0
-  pub next_is : now 0 ≡ next.before
   pub broker_turned : 0 < turns_of 0 turns
-  pub agents_turned : (place : ℕ) → place < count_of so.broker.hub → 8 ≤ turns_of (place + 1) turns
+  pub agents_turned : (place : ℕ) → place < count_of so.broker.hub → 0 < turns_of (place + 1) turns
+  pub agents_turned_on : (place : ℕ) → place < count_of so.broker.hub → 8 ≤ turns_of (place + 1) (turns ++ next ∷ rest)
 
 -- there is no such stretch
 abbrev pub NoStretchLasts : Type 0
-NoStretchLasts = (pages : RunPages) (first now : ℕ → Task) (turns : List TurnMade) (next : TurnMade) → ¬ StretchRests pages first now turns next
+NoStretchLasts = (pages : RunPages) (first now last : ℕ → Task) (turns : List TurnMade) (next : TurnMade) (rest : List TurnMade) → ¬ StretchRests pages first now last turns next rest
 
 -- ---- a run
 
@@ -164,16 +165,17 @@ NoStretchLasts = (pages : RunPages) (first now : ℕ → Task) (turns : List Tur
 abbrev pub IsFair : (many round : ℕ) → List TurnMade → Type 0
 IsFair many round turns = (before row after : List TurnMade) → turns ≡ before ++ row ++ after → length row ≡ round → (place : ℕ) → place < many → 0 < turns_of place row
 
--- wherever turns in a row did nothing, eight or more of each task, and the broker's next one did nothing either, the tasks of these domains stand so on their pages
+-- wherever turns in a row did nothing, eight or more of each task, and one of each before one of the broker's, the tasks of these domains stand so on their pages
 abbrev pub StandThroughout : Domains → List TurnMade → Type 0
-StandThroughout hub turns = (before row after : List TurnMade) (next : TurnMade) (first now : ℕ → Task) → turns ≡ before ++ row ++ next ∷ after → AreMade (count_of hub + 1) first row now → now 0 ≡ next.before → next.place ≡ 0
-    → ((place : ℕ) → place < count_of hub + 1 → 8 ≤ turns_of place row) → Each (λ made. DoesNothing made.before made.now) row → DoesNothing next.before next.now → (pages : RunPages) × ((so : StretchStands pages first now row next) × (so.broker.hub ≡ hub))
+StandThroughout hub turns = (before row rest after : List TurnMade) (next : TurnMade) (first now last : ℕ → Task) → turns ≡ before ++ (row ++ next ∷ rest) ++ after → AreMade (count_of hub + 1) first row now → AreMade (count_of hub + 1) now (next ∷ rest) last → next.place ≡ 0
+    → ((place : ℕ) → place < count_of hub + 1 → (0 < turns_of place row) × (8 ≤ turns_of place (row ++ next ∷ rest))) → Each (λ made. DoesNothing made.before made.now) (row ++ next ∷ rest)
+    → (pages : RunPages) × ((so : StretchStands pages first now last row next rest) × (so.broker.hub ≡ hub))
 
--- then in a run whose broker goes on there aren't nine times so many turns in a row that all did nothing
+-- then in a run whose broker goes on there aren't eight times so many turns in a row that all did nothing
 abbrev pub StretchesAreShort : Type 0
-StretchesAreShort = (hub : Domains) (round : ℕ) (first last : ℕ → Task) (turns : List TurnMade) → AreMade (count_of hub + 1) first turns last → IsFair (count_of hub + 1) round turns → StandThroughout hub turns → NoStretchRests (9 * round) turns
+StretchesAreShort = (hub : Domains) (round : ℕ) (first last : ℕ → Task) (turns : List TurnMade) → AreMade (count_of hub + 1) first turns last → IsFair (count_of hub + 1) round turns → StandThroughout hub turns → NoStretchRests (8 * round) turns
 
 -- so the turns after which a task goes on, while the broker does, are fewer than that number times one more than what all tasks have done at most
 abbrev pub FairRunsAreBounded : Type 0
 FairRunsAreBounded = (hub : Domains) (round : ℕ) (first last : ℕ → Task) (turns : List TurnMade) (broker : BrokerState) (agents : ℕ → AgentState) → 0 < round → AreMade (count_of hub + 1) first turns last → IsFair (count_of hub + 1) round turns
-    → StandThroughout hub turns → IsHonestRun hub last broker agents → length turns < (run_work hub agents + 1) * (9 * round)
+    → StandThroughout hub turns → IsHonestRun hub last broker agents → length turns < (run_work hub agents + 1) * (8 * round)

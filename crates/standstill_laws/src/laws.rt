@@ -200,9 +200,9 @@ pub fn no_run_lasts()
     ensures { NoRunLasts }
 {}
 
-/// There is no stretch of turns of all tasks that did nothing, of which one is the broker's and eight are those of each
-/// agent, if the broker goes on after its last one, and its next turn does nothing either. What the calls of these turns
-/// found was so at moments of their pages.
+/// There is no stretch of turns of all tasks that did nothing, of which eight are those of each agent, with a turn of the
+/// broker's before which it and each agent made one, if the broker went on then. What the calls of these turns found was
+/// so at moments of their pages.
 pub fn no_stretch_lasts()
     ensures { NoStretchLasts }
 {}
@@ -290,13 +290,13 @@ pub fn run_turns_are_bounded()
     ensures { RunTurnsAreBounded }
 {}
 
-/// Where each task has one of so many turns in a row, a run between honest domains doesn't make nine times so many turns
+/// Where each task has one of so many turns in a row, a run between honest domains doesn't make eight times so many turns
 /// in a row that all do nothing, while its broker goes on.
 pub fn stretches_are_short()
     ensures { StretchesAreShort }
 {}
 
-/// So while its broker goes on, the turns of such a run after which a task goes on are fewer than nine times that number,
+/// So while its broker goes on, the turns of such a run after which a task goes on are fewer than eight times that number,
 /// times one more than all its tasks have done at most.
 pub fn fair_runs_are_bounded()
     ensures { FairRunsAreBounded }
@@ -314,7 +314,7 @@ pub fn leaving_is_short()
     ensures { LeavingIsShort }
 {}
 
-/// So the turns of a whole run between honest domains after which a task goes on are fewer than seventeen times that
+/// So the turns of a whole run between honest domains after which a task goes on are fewer than sixteen times that
 /// number and one, times one more than all its tasks have done at most.
 pub fn whole_runs_are_bounded()
     ensures { WholeRunsAreBounded }
