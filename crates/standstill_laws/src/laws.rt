@@ -166,8 +166,8 @@ pub fn findings_stay()
     ensures { FindingsStay }
 {}
 
-/// What comes of a page between honest ends by their steps is a later moment of it: no byte is taken back, and what was
-/// opened, shut or retired stays so.
+/// What comes of a page between honest ends by their steps is a later moment of it: no byte is taken back, no end that was
+/// opened is fresh again, and one that was shut or retired stays so.
 pub fn pages_go_on()
     ensures { PagesGoOn }
 {}
