@@ -1,5 +1,5 @@
 -- Where each domain is done, all are settled.
-use Rattle.std.proofs.Common.{◌≡◌, ◌≢◌, ℕ, ◌+◌, ◌≤◌, zero, suc, List, [], ◌∷◌, ◌++◌, length, map, refl, ap, sym, ◌∙◌, subst, arith, Some, None, Option}
+use Rattle.std.proofs.Common.{◌≡◌, ◌≢◌, ℕ, ◌+◌, ◌≤◌, zero, suc, List, [], ◌∷◌, ◌++◌, length, map, refl, ap, sym, ◌∙◌, subst, inr, arith, Some, None, Option}
 use Rattle.std.specs.Prelude.{Bool, true, false, ◌==◌, ◌&&◌, ◌||◌, nat_le, sum, filter, filter_map, if◌then◌else◌}
 use Rattle.std.specs.List.{list_any, cons_option, AllByRecursion as Each}
 use Rattle.std.proofs.lemmas.Bool.Decides.{nat_tests}
@@ -32,7 +32,7 @@ use Rattle.task_duties.proofs.JournalLaw.{asked_event, asked_in, asked_read, ask
 use Rattle.agent_task.specs.Ends.{session_of_answer, session_asked, session_told, sessions_owed}
 use Rattle.standstill_laws.specs.Settling.{ended_port, ended_ports, EndsInOrder, IsDone, AllAreSettled}
 use Rattle.standstill_laws.proofs.AnswerLaws.{IsAnswered, by_answer, trigger_answered, count_more, count_same}
-use Rattle.standstill_laws.proofs.SettleLaws.{no_call_is_live_lem}
+use Rattle.standstill_laws.proofs.SettleLaws.{no_call_is_live_lem, no_call_of_dropped_is_live_lem}
 
 -- ---- each trigger of a domain was answered
 
@@ -280,21 +280,26 @@ none_live f (t ∷ all) each =
     let none : length (f t) ≡ 0 = ap length each.0 in
     omega (arith, sum_by-cons (λ (n : ℕ). n) (length (f t)) (map (λ t. length (f t)) all), none, rest)
 
-each_live : (hub : Domains) (awaited : List ℕ) (journal : List Entry) (said : ℕ → List Message) (d : ℕ) (all : List ℕ) → IsDecidedOn hub [] journal → ((k : ℕ) → is_dropped journal k ≡ false) → ((f t : ℕ) → EndsInOrder hub f t journal)
-    → ((k : ℕ) → is_domain hub k ≡ true → IsDone hub awaited journal said k) → is_domain hub d ≡ true → Each (λ t. is_domain hub t ≡ true) all → Each (λ t. live hub journal d t ≡ []) all
-each_live hub awaited journal said d [] decided up order done there each = tt
-each_live hub awaited journal said d (t ∷ all) decided up order done there each = (
-  no_call_is_live_lem hub journal d t decided up (order d t) (λ p. ended_all hub awaited journal said d t p (accepts_well hub journal [] decided) there (done t each.0)),
-  each_live hub awaited journal said d all decided up order done there each.1,
-)
+-- no call of a domain that wasn't dropped is live: neither to one that was, nor to one that is done
+each_live : (hub : Domains) (awaited : List ℕ) (journal : List Entry) (said : ℕ → List Message) (d : ℕ) (all : List ℕ) → IsDecidedOn hub [] journal
+    → ((f t : ℕ) → is_domain hub f ≡ true → is_domain hub t ≡ true → is_dropped journal f ≡ false → is_dropped journal t ≡ false → EndsInOrder hub f t journal)
+    → ((k : ℕ) → is_domain hub k ≡ true → is_dropped journal k ≡ false → IsDone hub awaited journal said k) → is_domain hub d ≡ true → is_dropped journal d ≡ false → Each (λ t. is_domain hub t ≡ true) all
+    → Each (λ t. live hub journal d t ≡ []) all
+each_live hub awaited journal said d [] decided order done there up each = tt
+each_live hub awaited journal said d (t ∷ all) decided order done there up each = (by_target (is_dropped journal t) refl, each_live hub awaited journal said d all decided order done there up each.1)
+  where
+    by_target : (b : Bool) → is_dropped journal t ≡ b → live hub journal d t ≡ []
+    by_target true gone = no_call_of_dropped_is_live_lem hub journal d t (inr gone)
+    by_target false stays =
+        no_call_is_live_lem hub journal d t decided up stays (order d t there each.0 up stays) (λ p. ended_all hub awaited journal said d t p (accepts_well hub journal [] decided) there (done t each.0 stays))
 
 pub all_are_settled_lem : AllAreSettled
-all_are_settled_lem hub awaited journal said decided up order done d there dropped =
-    let here = done d there in
+all_are_settled_lem hub awaited journal said decided order done d there up =
+    let here = done d there up in
     let none : live_calls hub journal (numbers 1 1 (count_of hub)) d ≡ 0 =
     none_live (live hub journal d) (numbers 1 1 (count_of hub))
-    (each_live hub awaited journal said d (numbers 1 1 (count_of hub)) decided up order done there (to_domain hub (numbers 1 1 (count_of hub)) (each_number (count_of hub) 1 (count_of hub) (omega arith) (omega arith)))) in
+    (each_live hub awaited journal said d (numbers 1 1 (count_of hub)) decided order done there up (to_domain hub (numbers 1 1 (count_of hub)) (each_number (count_of hub) 1 (count_of hub) (omega arith) (omega arith)))) in
     let told : answered journal d ≡ length here.calls =
-    answered_asked hub d [] journal decided refl dropped
+    answered_asked hub d [] journal decided refl up
     ∙ (ap length (asked_read d journal ∙ (ap (filter_map asking_event) here.reads ∙ (asked_said d here.sent ∙ here.triggers))) ∙ length-map here.calls asking_of) in
     (omega (arith, none, told, here.count), λ some. here.all_said)

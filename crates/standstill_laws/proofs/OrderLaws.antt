@@ -1,6 +1,6 @@
 -- Ends of sessions are read after their calls were let through.
 use Rattle.std.proofs.Common.{◌≡◌, ◌≢◌, ℕ, ◌<◌, suc, List, [], ◌∷◌, ◌++◌, length, map, refl, ap, sym, ◌∙◌, subst, inl, inr, arith, append_assoc, Some, None, Option}
-use Rattle.std.specs.Prelude.{◌⊎◌, Bool, true, false, ◌==◌, ◌&&◌, ◌||◌, not, slice_index_or, filter_map, if◌then◌else◌}
+use Rattle.std.specs.Prelude.{◌⊎◌, Bool, true, false, ◌==◌, ◌&&◌, ◌||◌, slice_index_or, filter_map, if◌then◌else◌}
 use Rattle.std.specs.List.{list_any, cons_option, AllByRecursion as Each}
 use Rattle.std.proofs.lemmas.Bool.Decides.{nat_tests}
 use Rattle.std.proofs.lemmas.Slice.Eq.{bytes_eq-Decides}
@@ -16,14 +16,13 @@ use Rattle.call_broker.specs.declared.event.Event.TheVariants.{Trigger, Terminat
 use Rattle.call_broker.specs.declared.decision.Decision.{Decision}
 use Rattle.call_broker.specs.declared.decision.Decision.TheVariants.{Accepted}
 use Rattle.call_broker.specs.declared.decision.Entry.{Entry}
-use Rattle.call_broker.specs.Domains.{Domains, is_domain}
-use Rattle.call_broker.specs.Pair.{Ordered, Alone, has, is_pair, by_port, belongs}
+use Rattle.call_broker.specs.Domains.{Domains}
+use Rattle.call_broker.specs.Pair.{Ordered, has, by_port, belongs}
 use Rattle.call_broker.specs.Journal.{port_in, accepted_ports}
 use Rattle.call_broker.specs.Laws.{AcceptsWell}
 use Rattle.call_broker.proofs.Decided.{accepts_well}
 use Rattle.call_broker.proofs.DroppedLaws.{any_append}
 use Rattle.call_broker.proofs.PortLaws.{ports_apart_lem, port_names_pair_lem}
-use Rattle.call_broker.proofs.TabledLaws.{own_pair}
 use Rattle.task_duties.specs.declared.place.PagePlace.TheVariants.{Payload}
 use Rattle.scenario_file.specs.declared.scenario.CallPlan.{CallPlan}
 use Rattle.task_duties.specs.Places.{has_place, without}
@@ -36,6 +35,7 @@ use Rattle.task_duties.proofs.OutboxLaw.{IsConnect, IsExec, put_by_entry}
 use Rattle.agent_task.specs.Ends.{session_of_answer, session_asked}
 use Rattle.standstill_laws.specs.Settling.{ended_port, EndsInOrder}
 use Rattle.standstill_laws.specs.Order.{IsReportOf, HasGrown, IsEmpty, HasMore, EndsComeInOrder}
+use Rattle.standstill_laws.proofs.SettleLaws.{named_pair, sender_of_pair}
 use Rattle.standstill_laws.proofs.DoneLaws.{IsPortOfPair, port_of}
 
 -- ---- a call that was let through was told so
@@ -163,13 +163,6 @@ let_through hub journal d other port r = by_part (has_append (filter_map (λ a. 
 pub same_ordered : (a b f t : ℕ) → Ordered a b ≡ Ordered f t → (a ≡ f) × (b ≡ t)
 same_ordered a b f t is = (cc, cc)
 
-named_pair : (hub : Domains) (f t d other port : ℕ) → belongs hub (Ordered f t) (Terminated d other port) ≡ true → by_port d other port ≡ Ordered f t
-named_pair hub f t d other port own = by_domain (is_domain hub other && not (other == d)) own
-  where
-    by_domain : (b : Bool) → is_pair (if b then by_port d other port else Alone d) (Ordered f t) ≡ true → by_port d other port ≡ Ordered f t
-    by_domain true is = own_pair (by_port d other port) f t is
-    by_domain false is = cc
-
 of_pair : (hub : Domains) (journal : List Entry) (f t d other port : ℕ) → Each (λ x. AcceptsWell hub x.event x.decision) journal → belongs hub (Ordered f t) (Terminated d other port) ≡ true → IsLetThrough journal d other port
     → has port (accepted_ports journal f t) ≡ true
 of_pair hub journal f t d other port well own (inl some) =
@@ -248,25 +241,26 @@ none_there : (a : List Entry) (x : Entry) (b : List Entry) → [] ≡ a ++ x ∷
 none_there [] x b is = cc
 none_there (y ∷ a) x b is = cc
 
-was_reported : (hub : Domains) (journal a : List Entry) (x : Entry) (b : List Entry) (d other port : ℕ) → HasGrown hub journal → journal ≡ a ++ x ∷ b → x.event ≡ Terminated d other port → WasReported hub a d other port
-was_reported hub journal a x b d other port IsEmpty is event = absurd (none_there a x b is)
-was_reported hub journal a x b d other port (HasMore before new grown read) is event = by_part (where_in before new a x b is) (λ rest same. was_reported hub before a x rest d other port grown same event)
+was_reported : (hub : Domains) (honest : ℕ → Bool) (journal a : List Entry) (x : Entry) (b : List Entry) (d other port : ℕ) → HasGrown hub honest journal → honest d ≡ true → journal ≡ a ++ x ∷ b → x.event ≡ Terminated d other port
+    → WasReported hub a d other port
+was_reported hub honest journal a x b d other port IsEmpty fair is event = absurd (none_there a x b is)
+was_reported hub honest journal a x b d other port (HasMore before new grown read) fair is event = by_part (where_in before new a x b is) (λ rest same. was_reported hub honest before a x rest d other port grown fair same event)
   where
     by_part : IsBefore before a x ⊎ IsLater before a x new → ((rest : List Entry) → before ≡ a ++ x ∷ rest → WasReported hub a d other port) → WasReported hub a d other port
     by_part (inl h) earlier = earlier h.rest h.is
-    by_part (inr h) earlier = record { before = before; between = h.between; is = h.is; report = read x d other port h.there event }
+    by_part (inr h) earlier = record { before = before; between = h.between; is = h.is; report = read x d other port h.there event fair }
 
-in_order : (hub : Domains) (journal : List Entry) (f t : ℕ) → Each (λ x. AcceptsWell hub x.event x.decision) journal → AreDifferent (accepted_ports journal f t) → HasGrown hub journal → (done rest : List Entry) → journal ≡ done ++ rest
-    → EndsInOrder hub f t rest
-in_order hub journal f t well differ grown done [] is = tt
-in_order hub journal f t well differ grown done (x ∷ rest) is = (
+in_order : (hub : Domains) (honest : ℕ → Bool) (journal : List Entry) (f t : ℕ) → Each (λ x. AcceptsWell hub x.event x.decision) journal → AreDifferent (accepted_ports journal f t) → HasGrown hub honest journal
+    → ((d : ℕ) → (d ≡ f) ⊎ (d ≡ t) → honest d ≡ true) → (done rest : List Entry) → journal ≡ done ++ rest → EndsInOrder hub f t rest
+in_order hub honest journal f t well differ grown fair done [] is = tt
+in_order hub honest journal f t well differ grown fair done (x ∷ rest) is = (
   λ port ended. by_event x.event refl port ended,
-  in_order hub journal f t well differ grown (done ++ x ∷ []) rest (is ∙ sym (append_assoc done (x ∷ []) rest)),
+  in_order hub honest journal f t well differ grown fair (done ++ x ∷ []) rest (is ∙ sym (append_assoc done (x ∷ []) rest)),
 )
   where
     here : (d other port : ℕ) → x.event ≡ Terminated d other port → belongs hub (Ordered f t) (Terminated d other port) ≡ true → has port (accepted_ports rest f t) ≡ false
     here d other port event own =
-        let was = was_reported hub journal done x rest d other port grown is event in
+        let was = was_reported hub honest journal done x rest d other port grown (fair d (sender_of_pair hub f t d other port own)) is event in
         let whole : journal ≡ was.before ++ ((was.between ++ x ∷ []) ++ rest) =
         is ∙ (ap (λ l. l ++ x ∷ rest) was.is ∙ (append_assoc was.before was.between (x ∷ rest) ∙ ap (λ l. was.before ++ l) (sym (append_assoc was.between (x ∷ []) rest)))) in
         let before_well = each_front (λ y. AcceptsWell hub y.event y.decision) was.before ((was.between ++ x ∷ []) ++ rest) (subst (λ l. Each (λ y. AcceptsWell hub y.event y.decision) l) whole well) in
@@ -292,5 +286,9 @@ in_order hub journal f t well differ grown done (x ∷ rest) is = (
     by_event _ event p ended = cc
 
 pub ends_come_in_order_lem : EndsComeInOrder
-ends_come_in_order_lem hub journal f t decided grown =
-    in_order hub journal f t (accepts_well hub journal [] decided) (differ_from (accepted_ports journal f t) (λ i j. (ports_apart_lem hub f t journal decided).1 i j 0)) grown [] journal refl
+ends_come_in_order_lem hub honest journal f t decided grown fair_f fair_t =
+    in_order hub honest journal f t (accepts_well hub journal [] decided) (differ_from (accepted_ports journal f t) (λ i j. (ports_apart_lem hub f t journal decided).1 i j 0)) grown fair [] journal refl
+  where
+    fair : (d : ℕ) → (d ≡ f) ⊎ (d ≡ t) → honest d ≡ true
+    fair d (inl is) = ap honest is ∙ fair_f
+    fair d (inr is) = ap honest is ∙ fair_t

@@ -1,4 +1,4 @@
--- Where the page of a session stands still, both sides are over.
+-- Where the page of a session stands still, both sides are over; where the peer has left, it doesn't.
 use Rattle.std.proofs.Common.{◌≡◌, ℕ, true, false, Bool, refl, sym, ap, ◌∙◌, subst, Some}
 use Rattle.std.specs.Prelude.{if◌then◌else◌}
 use Rattle.ring_words.specs.declared.page.Role.{Role}
@@ -14,7 +14,7 @@ use Rattle.vchan_protocol.specs.Honest.RingLaw.{word_at}
 use Rattle.vchan_protocol.specs.History.Peer.{peer}
 use Rattle.vchan_rule.specs.Seated.{SeatedEnd}
 use Rattle.vchan_lifecycle.specs.Lifecycle.{FindsNotYet}
-use Rattle.standstill_laws.specs.Sessions.{IsGoneStill, CallIsQuiet, CallIsOver, ServingIsQuiet, ServingIsOver, NoSessionIsOpen, PeerIsThere}
+use Rattle.standstill_laws.specs.Sessions.{IsGoneStill, CallIsQuiet, CallIsOver, ServingIsQuiet, ServingIsOver, NoSessionIsOpen, CallWasQuiet, ServingWasQuiet, NoSessionIsLeftAlone, PeerIsThere}
 use Rattle.standstill_laws.proofs.TurnLaws.{no_session_stands_still_lem}
 use Rattle.qrexec_data.specs.Laws.{IsVersion}
 
@@ -29,14 +29,23 @@ gone_told : (core : Core) → Lawful core → (who : Role) → word_at core.orde
 gone_told core l Server = l.lives.client_words.gone.word
 gone_told core l Client = l.lives.server_words.gone.word
 
--- so if what it found is still so, its peer isn't retired
-not_retired : (core : Core) (who : Role) (before now : SeatedEnd) → Lawful core → (f : FindsNotYet before now) → IsGoneStill core who (loads_of (standing_of before.side) now.side.trail) → (side_of core (peer who)).retired ≡ true → ⊥
-not_retired core who before now lawful f still retired =
+-- so if what it found is still so, its peer hasn't left
+not_left : (core : Core) (who : Role) (before now : SeatedEnd) → (f : FindsNotYet before now) → IsGoneStill core who (loads_of (standing_of before.side) now.side.trail) → word_at core.orders core.words (peer_gone who) ≡ 0
+not_left core who before now f still =
     let here : FoundHere (loads_of (standing_of before.side) now.side.trail) = here_by (standing_of before.side) f.most (loads_of (standing_of before.side) now.side.trail) f.prod f.cons f.cause in
     let same : Some 0 ≡ Some (word_at core.orders core.words (peer_gone who)) = sym here ∙ still in
     let word : 0 ≡ word_at core.orders core.words (peer_gone who) = cc in
-    let one : ◌≡◌ {A = ℕ} 0 1 = word ∙ (gone_told core lawful who ∙ ap (λ (b : Bool). if b then 1 else 0) retired) in
+    sym word
+
+-- nor is it retired
+not_retired : (core : Core) (who : Role) (before now : SeatedEnd) → Lawful core → (f : FindsNotYet before now) → IsGoneStill core who (loads_of (standing_of before.side) now.side.trail) → (side_of core (peer who)).retired ≡ true → ⊥
+not_retired core who before now lawful f still retired =
+    let one : ◌≡◌ {A = ℕ} 0 1 = sym (not_left core who before now f still) ∙ (gone_told core lawful who ∙ ap (λ (b : Bool). if b then 1 else 0) retired) in
     cc
+
+pub no_session_is_left_alone_lem : NoSessionIsLeftAlone
+no_session_is_left_alone_lem core who s left (CallWasQuiet before now turn still) = left (not_left core who turn.2.found turn.2.left turn.2.not_yet still)
+no_session_is_left_alone_lem core who s left (ServingWasQuiet before now turn still) = left (not_left core who turn.2.found turn.2.left turn.2.not_yet still)
 
 pub no_session_is_open_lem : NoSessionIsOpen
 no_session_is_open_lem core calling serving c s lawful calling_is serving_is (CallIsOver end retired) (ServingIsOver end' retired') = (refl, refl)

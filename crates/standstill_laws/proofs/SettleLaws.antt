@@ -1,7 +1,8 @@
--- Where the end of each session was read, no call is live.
-use Rattle.std.proofs.Common.{◌≡◌, ℕ, List, [], ◌∷◌, ◌++◌, refl, ap, sym, ◌∙◌, subst, append_assoc, Some, None, Option, arith}
-use Rattle.std.specs.Prelude.{Bool, true, false, ◌==◌, ◌||◌, not, filter, if◌then◌else◌}
+-- Where the end of each session was read, or a domain was dropped, no call is live.
+use Rattle.std.proofs.Common.{◌≡◌, ℕ, ◌<◌, ◌≤◌, List, [], ◌∷◌, ◌++◌, refl, ap, sym, ◌∙◌, subst, inl, inr, append_assoc, Some, None, Option, arith}
+use Rattle.std.specs.Prelude.{◌⊎◌, Bool, true, false, ◌==◌, ◌&&◌, ◌||◌, not, min, max, filter, if◌then◌else◌}
 use Rattle.std.specs.List.{list_any, cons_option}
+use Rattle.std.proofs.lemmas.Bool.{cases_lt, or_right}
 use Rattle.std.proofs.lemmas.Bool.Decides.{nat_tests}
 use Rattle.std.proofs.lemmas.List.{append-nil}
 use Rattle.call_broker.specs.declared.event.Event.{Event}
@@ -9,14 +10,16 @@ use Rattle.call_broker.specs.declared.event.Event.TheVariants.{Trigger, Terminat
 use Rattle.call_broker.specs.declared.decision.Decision.{Decision}
 use Rattle.call_broker.specs.declared.decision.Decision.TheVariants.{Accepted, Ended, PassedOver}
 use Rattle.call_broker.specs.declared.decision.Entry.{Entry}
-use Rattle.call_broker.specs.Domains.{Domains}
-use Rattle.call_broker.specs.Pair.{Pair, PairState, Ordered, has, is_pair, pair_of, belongs, decides, settles, step, state_after, decision}
-use Rattle.call_broker.specs.Journal.{IsDecidedOn, events, drops, port_in, accepted_ports}
+use Rattle.call_broker.specs.Domains.{Domains, is_domain, is_odd}
+use Rattle.call_broker.specs.Pair.{Pair, PairState, Ordered, Alone, has, is_pair, by_port, pair_of, belongs, decides, settles, step, state_after, decision}
+use Rattle.call_broker.specs.Journal.{IsDecidedOn, events, drops, is_dropped, port_in, accepted_ports}
+use Rattle.call_broker.proofs.AnswerLaws.{of_caller, of_target}
+use Rattle.call_broker.proofs.DroppedLaws.{dropped_is}
 use Rattle.call_broker.proofs.OpenLaws.{taken_view, taken_pair, terminated_takes_none}
 use Rattle.call_broker.proofs.PortLaws.{state_after_lem}
 use Rattle.call_broker.proofs.StateLaws.{still_up, dropped_events, none_before}
 use Rattle.call_broker.proofs.TabledLaws.{own_pair}
-use Rattle.standstill_laws.specs.Settling.{ended_port, ended_ports, EndsInOrder, NoCallIsLive}
+use Rattle.standstill_laws.specs.Settling.{ended_port, ended_ports, EndsInOrder, NoCallIsLive, NoCallOfDroppedIsLive}
 
 -- ---- numbers in lists
 
@@ -103,6 +106,39 @@ step_none hub before f t (Dropped domain) p none apart = by_own (belongs hub (Or
 step_none hub before f t (Trigger from target service ident) p none apart = step_own hub before f t (Trigger from target service ident) p none apart (is_pair (pair_of hub (Trigger from target service ident)) (Ordered f t)) refl
 step_none hub before f t (Terminated from other port) p none apart = step_own hub before f t (Terminated from other port) p none apart (is_pair (pair_of hub (Terminated from other port)) (Ordered f t)) refl
 
+-- the pair of a Terminated is the one that its sender names
+pub named_pair : (hub : Domains) (f t d other port : ℕ) → belongs hub (Ordered f t) (Terminated d other port) ≡ true → by_port d other port ≡ Ordered f t
+named_pair hub f t d other port own = by_domain (is_domain hub other && not (other == d)) own
+  where
+    by_domain : (b : Bool) → is_pair (if b then by_port d other port else Alone d) (Ordered f t) ≡ true → by_port d other port ≡ Ordered f t
+    by_domain true is = own_pair (by_port d other port) f t is
+    by_domain false is = cc
+
+-- which is one of the two
+pub sender_of_pair : (hub : Domains) (f t d other port : ℕ) → belongs hub (Ordered f t) (Terminated d other port) ≡ true → (d ≡ f) ⊎ (d ≡ t)
+sender_of_pair hub f t d other port own = by_parity (is_odd port) (named_pair hub f t d other port own)
+  where
+    by_order : (a b : ℕ) → min d other ≡ a → max d other ≡ b → (d ≡ a) ⊎ (d ≡ b)
+    by_order a b low high = by_less (cases_lt d other)
+      where
+        by_less : (d < other) ⊎ (other ≤ d) → (d ≡ a) ⊎ (d ≡ b)
+        by_less (inl less) = inl (omega (arith, less, low))
+        by_less (inr more) = inr (omega (arith, more, high))
+
+    turned : (d ≡ t) ⊎ (d ≡ f) → (d ≡ f) ⊎ (d ≡ t)
+    turned (inl is) = inr is
+    turned (inr is) = inl is
+
+    by_parity : (b : Bool) → (if b then Ordered (min d other) (max d other) else Ordered (max d other) (min d other)) ≡ Ordered f t → (d ≡ f) ⊎ (d ≡ t)
+    by_parity true is =
+        let low : min d other ≡ f = cc in
+        let high : max d other ≡ t = cc in
+        by_order f t low high
+    by_parity false is =
+        let high : max d other ≡ f = cc in
+        let low : min d other ≡ t = cc in
+        turned (by_order t f low high)
+
 -- the end of a session leaves no call live at its port
 end_none : (hub : Domains) (before : List Event) (f t from other port : ℕ) → list_any (drops from) before ≡ false → belongs hub (Ordered f t) (Terminated from other port) ≡ true
     → has port (step hub (Ordered f t) (state_after hub before (Ordered f t)) (Terminated from other port)).live ≡ false
@@ -126,19 +162,19 @@ not_live hub f t before (x ∷ journal) p decided none apart =
     let next = subst (λ (s : PairState). has p s.live ≡ false) (sym (state_after_lem hub (Ordered f t) before x.event)) (step_none hub before f t x.event p none here) in
     subst (λ (es : List Event). has p (state_after hub es (Ordered f t)).live ≡ false) (append_assoc before (x.event ∷ []) (events journal)) (not_live hub f t (before ++ x.event ∷ []) journal p decided.1 next parts.1)
 
-ended_none : (hub : Domains) (f t : ℕ) (before : List Event) (journal : List Entry) (p : ℕ) → IsDecidedOn hub before journal → EndsInOrder hub f t journal → ((d : ℕ) → list_any (drops d) (before ++ events journal) ≡ false)
-    → has p (ended_ports hub journal f t) ≡ true → has p (state_after hub (before ++ events journal) (Ordered f t)).live ≡ false
+ended_none : (hub : Domains) (f t : ℕ) (before : List Event) (journal : List Entry) (p : ℕ) → IsDecidedOn hub before journal → EndsInOrder hub f t journal
+    → ((d : ℕ) → (d ≡ f) ⊎ (d ≡ t) → list_any (drops d) (before ++ events journal) ≡ false) → has p (ended_ports hub journal f t) ≡ true → has p (state_after hub (before ++ events journal) (Ordered f t)).live ≡ false
 ended_none hub f t before [] p decided order up ended = cc
 ended_none hub f t before (x ∷ journal) p decided order up ended =
     subst (λ (es : List Event). has p (state_after hub es (Ordered f t)).live ≡ false) (append_assoc before (x.event ∷ []) (events journal))
-    (by_event x.event refl ended (ended_none hub f t (before ++ x.event ∷ []) journal p decided.1 order.1 (λ d. subst (λ (es : List Event). list_any (drops d) es ≡ false) (sym (append_assoc before (x.event ∷ []) (events journal))) (up d))))
+    (by_event x.event refl ended (ended_none hub f t (before ++ x.event ∷ []) journal p decided.1 order.1 (λ d own. subst (λ (es : List Event). list_any (drops d) es ≡ false) (sym (append_assoc before (x.event ∷ []) (events journal))) (up d own))))
   where
     Goal : Type 0
     Goal = has p (state_after hub ((before ++ x.event ∷ []) ++ events journal) (Ordered f t)).live ≡ false
 
     here : (from other port : ℕ) → x.event ≡ Terminated from other port → belongs hub (Ordered f t) (Terminated from other port) ≡ true → port ≡ p → Goal
     here from other port is own same =
-        let gone = end_none hub before f t from other port (none_before from before (x.event ∷ events journal) (up from)) own in
+        let gone = end_none hub before f t from other port (none_before from before (x.event ∷ events journal) (up from (sender_of_pair hub f t from other port own))) own in
         let next = subst (λ (s : PairState). has port s.live ≡ false) (sym (state_after_lem hub (Ordered f t) before x.event)) (subst (λ (e : Event). has port (step hub (Ordered f t) (state_after hub before (Ordered f t)) e).live ≡ false) (sym is) gone) in
         let told : ended_port hub f t x.event ≡ Some port = ap (ended_port hub f t) is ∙ ap (λ (b : Bool). if b then Some port else None) own in
         subst (λ (q : ℕ). has q (state_after hub ((before ++ x.event ∷ []) ++ events journal) (Ordered f t)).live ≡ false) same (not_live hub f t (before ++ x.event ∷ []) journal port decided.1 next (order.0 port told))
@@ -158,8 +194,81 @@ ended_none hub f t before (x ∷ journal) p decided order up ended =
     by_event _ is h rest = rest h
 
 pub no_call_is_live_lem : NoCallIsLive
-no_call_is_live_lem hub journal f t decided up order ended = none_has (state_after hub (events journal) (Ordered f t)).live (λ p. by_accepted p (has p (accepted_ports journal f t)) refl)
+no_call_is_live_lem hub journal f t decided up_f up_t order ended = none_has (state_after hub (events journal) (Ordered f t)).live (λ p. by_accepted p (has p (accepted_ports journal f t)) refl)
   where
+    up : (d : ℕ) → (d ≡ f) ⊎ (d ≡ t) → list_any (drops d) (events journal) ≡ false
+    up d (inl is) = subst (λ (n : ℕ). list_any (drops n) (events journal) ≡ false) (sym is) (dropped_events f journal ∙ up_f)
+    up d (inr is) = subst (λ (n : ℕ). list_any (drops n) (events journal) ≡ false) (sym is) (dropped_events t journal ∙ up_t)
+
     by_accepted : (p : ℕ) → (b : Bool) → has p (accepted_ports journal f t) ≡ b → has p (state_after hub (events journal) (Ordered f t)).live ≡ false
-    by_accepted p true is = ended_none hub f t [] journal p decided order (λ d. dropped_events d journal ∙ up d) (ended p is)
+    by_accepted p true is = ended_none hub f t [] journal p decided order up (ended p is)
     by_accepted p false is = not_live hub f t [] journal p decided refl is
+
+-- ---- a domain that was dropped
+
+-- where one of the two was dropped no call is live
+abbrev HasNone : ℕ → ℕ → PairState → Type 0
+HasNone f t s = (has f s.dropped || has t s.dropped) ≡ true → s.live ≡ []
+
+settles_empty : (f t : ℕ) (s : PairState) (e : Event) (x : Decision) → HasNone f t s → ((to port : ℕ) → x ≡ Accepted to port → (has f s.dropped || has t s.dropped) ≡ false) → HasNone f t (settles s e x)
+settles_empty f t s (Dropped domain) x none up = λ gone. refl
+settles_empty f t s (Trigger from target service ident) (Accepted to port) none up = λ gone. let clear = up to port refl in absurd (cc)
+settles_empty f t s (Trigger from target service ident) (Refused cause) none up = none
+settles_empty f t s (Trigger from target service ident) (Ended a b q) none up = λ gone. ap (filter (λ p. not (p == q))) (none gone)
+settles_empty f t s (Trigger from target service ident) PassedOver none up = none
+settles_empty f t s (Terminated from other r) (Accepted to port) none up = λ gone. let clear = up to port refl in absurd (cc)
+settles_empty f t s (Terminated from other r) (Refused cause) none up = none
+settles_empty f t s (Terminated from other r) (Ended a b q) none up = λ gone. ap (filter (λ p. not (p == q))) (none gone)
+settles_empty f t s (Terminated from other r) PassedOver none up = none
+
+-- neither of the two was dropped
+abbrev AreUp : Domains → List Event → Pair → Type 0
+AreUp hub before (Ordered f t) = (has f (state_after hub before (Ordered f t)).dropped || has t (state_after hub before (Ordered f t)).dropped) ≡ false
+AreUp hub before (Alone d) = Unit {0}
+
+-- so it is where a call of the pair is let through
+accepts_up : (hub : Domains) (before : List Event) (f t : ℕ) (e : Event) (to port : ℕ) → pair_of hub e ≡ Ordered f t → decision hub before e ≡ Accepted to port → AreUp hub before (Ordered f t)
+accepts_up hub before f t (Trigger from target service ident) to port pair is =
+    let taken = taken_view hub before from target service ident to port is in
+    let same : Ordered from to ≡ Ordered f t = sym (taken_pair hub before from target service ident to port taken) ∙ pair in
+    subst (AreUp hub before) same (rw (taken.open_pair.caller_up, taken.open_pair.target_up) refl)
+accepts_up hub before f t (Terminated from other q) to port pair is = absurd (terminated_takes_none hub before from other q to port (sym is))
+accepts_up hub before f t (Dropped domain) to port pair is = cc
+
+step_empty : (hub : Domains) (before : List Event) (f t : ℕ) (e : Event) → HasNone f t (state_after hub before (Ordered f t)) → HasNone f t (step hub (Ordered f t) (state_after hub before (Ordered f t)) e)
+step_empty hub before f t e none = by_event e
+  where
+    s : PairState
+    s = state_after hub before (Ordered f t)
+
+    by_own : (e : Event) (b : Bool) → is_pair (pair_of hub e) (Ordered f t) ≡ b → HasNone f t (if b then settles s e (decides hub (Ordered f t) s e) else s)
+    by_own e false is = none
+    by_own e true is =
+        let pair = own_pair (pair_of hub e) f t is in
+        let same : decides hub (Ordered f t) s e ≡ decision hub before e = ap (λ (q : Pair). decides hub q (state_after hub before q) e) (sym pair) in
+        settles_empty f t s e (decides hub (Ordered f t) s e) none (λ to port accepted. accepts_up hub before f t e to port pair (sym same ∙ accepted))
+
+    by_dropped : (domain : ℕ) (b : Bool) → HasNone f t (if b then settles s (Dropped domain) PassedOver else s)
+    by_dropped domain true = λ gone. refl
+    by_dropped domain false = none
+
+    by_event : (e : Event) → HasNone f t (step hub (Ordered f t) s e)
+    by_event (Dropped domain) = by_dropped domain (belongs hub (Ordered f t) (Dropped domain))
+    by_event (Trigger from target service ident) = by_own (Trigger from target service ident) (is_pair (pair_of hub (Trigger from target service ident)) (Ordered f t)) refl
+    by_event (Terminated from other port) = by_own (Terminated from other port) (is_pair (pair_of hub (Terminated from other port)) (Ordered f t)) refl
+
+all_empty : (hub : Domains) (f t : ℕ) (before rest : List Event) → HasNone f t (state_after hub before (Ordered f t)) → HasNone f t (state_after hub (before ++ rest) (Ordered f t))
+all_empty hub f t before [] none = subst (λ (es : List Event). HasNone f t (state_after hub es (Ordered f t))) (sym (append-nil before)) none
+all_empty hub f t before (e ∷ rest) none =
+    let next = subst (HasNone f t) (sym (state_after_lem hub (Ordered f t) before e)) (step_empty hub before f t e none) in
+    subst (λ (es : List Event). HasNone f t (state_after hub es (Ordered f t))) (append_assoc before (e ∷ []) rest) (all_empty hub f t (before ++ e ∷ []) rest next)
+
+pub no_call_of_dropped_is_live_lem : NoCallOfDroppedIsLive
+no_call_of_dropped_is_live_lem hub journal f t gone = all_empty hub f t [] (events journal) (λ h. refl) (by_domain gone)
+  where
+    s : PairState
+    s = state_after hub (events journal) (Ordered f t)
+
+    by_domain : (is_dropped journal f ≡ true) ⊎ (is_dropped journal t ≡ true) → (has f s.dropped || has t s.dropped) ≡ true
+    by_domain (inl is) = ap (λ (b : Bool). b || has t s.dropped) (dropped_is hub (Ordered f t) f (events journal) (of_caller f t) ∙ (dropped_events f journal ∙ is))
+    by_domain (inr is) = or_right (has f s.dropped) (has t s.dropped) (dropped_is hub (Ordered f t) t (events journal) (of_target f t) ∙ (dropped_events t journal ∙ is))

@@ -1,4 +1,4 @@
--- A run of honest domains doesn't stand still before the broker is done.
+-- A run doesn't stand still before the broker is done.
 use Rattle.std.proofs.Common.{◌≡◌, ℕ, ◌+◌, ◌-◌, ◌<◌, ◌≤◌, true, false, List, [], ◌∷◌, refl, ap, sym, ◌∙◌, subst, inl, inr, arith, Option}
 use Rattle.std.specs.Prelude.{◌⊎◌, nat_le, filter_map, IsSomeAnd, IsPermutation}
 use Rattle.std.proofs.lemmas.Bool.Decides.{nat_tests}
@@ -22,11 +22,11 @@ use Rattle.standstill_laws.specs.Control.{Talks}
 use Rattle.standstill_laws.specs.Letters.{AreAtRest}
 use Rattle.standstill_laws.specs.Asking.{heard_so_far, HearsInOrder, HasAskedAll}
 use Rattle.standstill_laws.specs.Settling.{IsDone}
-use Rattle.standstill_laws.specs.Standstill.{SessionStandsStill, IsShut, AsCaller, AsServing, AgentStandsStill, DomainStandsStill, RunsDoNotStandStill, NoAgentIsLeft}
+use Rattle.standstill_laws.specs.Standstill.{SessionStandsStill, IsShut, AsCaller, AsServing, IsLeftAlone, AgentStandsStill, DomainStandsStill, RunsDoNotStandStill, NoAgentIsLeft}
 use Rattle.standstill_laws.proofs.SayingLaws.{agents_have_said_all_lem}
 use Rattle.standstill_laws.proofs.LetterLaws.{all_answers_are_said_lem, all_answers_are_heard_lem}
 use Rattle.standstill_laws.proofs.AnswerLaws.{all_calls_are_answered_lem, broker_reads}
-use Rattle.standstill_laws.proofs.OverLaws.{no_session_is_open_lem, peer_is_there_lem}
+use Rattle.standstill_laws.proofs.OverLaws.{no_session_is_open_lem, no_session_is_left_alone_lem, peer_is_there_lem}
 use Rattle.standstill_laws.proofs.AskingLaws.{agents_have_asked_all_lem}
 use Rattle.standstill_laws.proofs.OrderLaws.{ends_come_in_order_lem}
 use Rattle.standstill_laws.proofs.EarlyLaws.{agents_hear_in_order_lem}
@@ -43,6 +43,7 @@ rests_shut : (version : ℕ) (s : Session) → IsVersion version → SessionStan
 rests_shut version s own (IsShut is) = is
 rests_shut version s own (AsCaller core other peer lawful theirs mine yours) = ended_shut s (no_session_is_open_lem core version other s peer lawful own theirs mine yours).0
 rests_shut version s own (AsServing core other peer lawful theirs yours mine) = ended_shut s (no_session_is_open_lem core other version peer s lawful theirs own yours mine).1
+rests_shut version s own (IsLeftAlone core who left quiet) = absurd (no_session_is_left_alone_lem core who s left quiet)
 
 pub none_opened : (task : AgentState) (opened : List (ℕ × ℕ)) → Each (IsOpenSession task) opened → ((i : ℕ) → is_open (session_at task.sessions i) ≡ false) → opened ≡ []
 none_opened task [] each shut = refl
@@ -50,9 +51,9 @@ none_opened task (s ∷ opened) each shut = let bad : true ≡ false = sym each.
 
 -- ---- one domain
 
-done : (hub : Domains) (awaited : List ℕ) (journal : List Entry) (said : ℕ → List Message) (lines : List BrokerLine) → IsJournal hub journal → ((d : ℕ) → is_dropped journal d ≡ false) → HoldsForExecs lines → NoneIsLost hub journal said lines
-    → (rest : AreAtRest lines) (place : ℕ) → DomainStandsStill hub awaited journal said lines rest place → IsDone hub awaited journal said (place + 1)
-done hub awaited journal said lines decided up holds kept rest place r = record {
+done : (hub : Domains) (awaited : List ℕ) (journal : List Entry) (said : ℕ → List Message) (lines : List BrokerLine) → IsJournal hub journal → HoldsForExecs lines → NoneIsLost hub journal said lines
+    → (rest : AreAtRest lines) (place : ℕ) → is_dropped journal (place + 1) ≡ false → DomainStandsStill hub awaited journal said lines rest place → IsDone hub awaited journal said (place + 1)
+done hub awaited journal said lines decided holds kept rest place up r = record {
   calls = r.task.plan.calls;
   count = r.count;
   sent = sent;
@@ -89,7 +90,7 @@ done hub awaited journal said lines decided up holds kept rest place r = record 
     in_order : HearsInOrder r.task sent
     in_order =
         agents_hear_in_order_lem hub journal r.task a.tells a.channel a.channel_is decided a.differ (subst (λ (d : ℕ). IsPermutation heard (outbox hub journal d)) (sym r.domain) hears) a.given
-        (all_calls_are_answered_lem hub journal said lines decided holds kept rest place r.line r.there r.up (up (place + 1)) a.channel.port r.port sent heard r.heard r.port_is r.own r.attended talks r.talks) a.order
+        (all_calls_are_answered_lem hub journal said lines decided holds kept rest place r.line r.there r.up up a.channel.port r.port sent heard r.heard r.port_is r.own r.attended talks r.talks) a.order
 
     said_all : (a.channel.unsaid.items ≡ []) × (IsHeld a.channel.queue ⊎ (a.channel.queue.next ≡ a.before.queue.next + a.calls))
     said_all = agents_have_said_all_lem core a.calls a.before a.channel (rest place r.line r.there r.up).page a.stops a.still
@@ -107,17 +108,23 @@ done hub awaited journal said lines decided up holds kept rest place r = record 
 -- ---- the law
 
 pub runs_do_not_stand_still_lem : RunsDoNotStandStill
-runs_do_not_stand_still_lem hub awaited journal said lines decided grown up holds kept rest domains =
-    all_are_settled_lem hub awaited journal said decided up (λ f t. ends_come_in_order_lem hub journal f t decided grown) each
+runs_do_not_stand_still_lem hub honest awaited journal said lines decided grown holds kept rest domains =
+    all_are_settled_lem hub awaited journal said decided
+    (λ f t there there' up up'. ends_come_in_order_lem hub honest journal f t decided grown (each f there up).0 (each t there' up').0) (λ d there up. (each d there up).1)
   where
-    each : (d : ℕ) → is_domain hub d ≡ true → IsDone hub awaited journal said d
-    each d there =
+    each : (d : ℕ) → is_domain hub d ≡ true → is_dropped journal d ≡ false → (honest d ≡ true) × IsDone hub awaited journal said d
+    each d there up =
         let parts = and_parts (nat_le 1 d) (nat_le d (count_of hub)) there in
         let least : 1 ≤ d = grind (arith, nat_tests, parts.0) in
         let most : d ≤ count_of hub = grind (arith, nat_tests, parts.1) in
         let number : (d - 1) + 1 ≡ d = omega (arith, least) in
         let less : d - 1 < count_of hub = omega (arith, least, most) in
-        subst (λ (n : ℕ). IsDone hub awaited journal said n) number (done hub awaited journal said lines decided up holds kept rest (d - 1) (domains (d - 1) less))
+        subst (λ (n : ℕ). (honest n ≡ true) × IsDone hub awaited journal said n) number (by_place (d - 1) (subst (λ (n : ℕ). is_dropped journal n ≡ false) (sym number) up) (domains (d - 1) less))
+      where
+        by_place : (place : ℕ) → is_dropped journal (place + 1) ≡ false → (is_dropped journal (place + 1) ≡ true) ⊎ ((honest (place + 1) ≡ true) × DomainStandsStill hub awaited journal said lines rest place)
+            → (honest (place + 1) ≡ true) × IsDone hub awaited journal said (place + 1)
+        by_place place up (inl gone) = let bad : true ≡ false = sym gone ∙ up in cc
+        by_place place up (inr r) = (r.0, done hub awaited journal said lines decided holds kept rest place up r.1)
 
 pub no_agent_is_left_lem : NoAgentIsLeft
 no_agent_is_left_lem core task left (inl up) =

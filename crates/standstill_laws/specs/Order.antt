@@ -1,6 +1,6 @@
 -- In which order the broker reads the ends of sessions.
 -- Source: this project's own.
-use Rattle.std.specs.Prelude.{◌≡◌, ℕ, List, [], ◌∷◌, ◌++◌, map, filter_map, slice_get, Some, IsPermutation}
+use Rattle.std.specs.Prelude.{◌≡◌, ℕ, Bool, true, List, [], ◌∷◌, ◌++◌, map, filter_map, slice_get, Some, IsPermutation}
 use Rattle.std.specs.List.{count_by, AllByRecursion as Each}
 use Rattle.list_laws.specs.Lists.{SomeOf, AreDifferent}
 use Rattle.qrexec_frame.specs.declared.message.Message.{Message}
@@ -31,18 +31,18 @@ pub record IsReportOf (hub : Domains) (journal : List Entry) (d other port : ℕ
   pub put : Each (λ m. SomeOf (λ x. x ≡ m) (outbox hub journal d)) heard
   pub owed : SomeOf (λ s. s ≡ (other, port)) (sessions_owed (answers plan heard).asked heard)
 
--- what the broker reads in one turn: each report was sent before anything that the turn itself decides came
-abbrev pub AreReadAfter : Domains → (journal new : List Entry) → Type 0
-AreReadAfter hub journal new = (x : Entry) (d other port : ℕ) → SomeOf (λ y. y ≡ x) new → x.event ≡ event.Terminated d other port → IsReportOf hub journal d other port
+-- what the broker reads in one turn: each report of an honest domain was sent before anything that the turn itself decides came; another domain may send any
+abbrev pub AreReadAfter : Domains → (honest : ℕ → Bool) → (journal new : List Entry) → Type 0
+AreReadAfter hub honest journal new = (x : Entry) (d other port : ℕ) → SomeOf (λ y. y ≡ x) new → x.event ≡ event.Terminated d other port → honest d ≡ true → IsReportOf hub journal d other port
 
 -- a journal that grows turn by turn
-pub data HasGrown (hub : Domains) : List Entry → Type 0 where
-  IsEmpty : HasGrown hub []
-  HasMore : (journal new : List Entry) → HasGrown hub journal → AreReadAfter hub journal new → HasGrown hub (journal ++ new)
+pub data HasGrown (hub : Domains) (honest : ℕ → Bool) : List Entry → Type 0 where
+  IsEmpty : HasGrown hub honest []
+  HasMore : (journal new : List Entry) → HasGrown hub honest journal → AreReadAfter hub honest journal new → HasGrown hub honest (journal ++ new)
 
--- then no call is let through at a port after the end of a session there was read
+-- then no call between honest domains is let through at a port after the end of a session there was read
 abbrev pub EndsComeInOrder : Type 0
-EndsComeInOrder = (hub : Domains) (journal : List Entry) (f t : ℕ) → IsJournal hub journal → HasGrown hub journal → EndsInOrder hub f t journal
+EndsComeInOrder = (hub : Domains) (honest : ℕ → Bool) (journal : List Entry) (f t : ℕ) → IsJournal hub journal → HasGrown hub honest journal → honest f ≡ true → honest t ≡ true → EndsInOrder hub f t journal
 
 -- ---- what an agent sends
 

@@ -41,6 +41,21 @@ pub data ServingStandsStill (core : Core) (version : ℕ) : Session → Type 0 w
 abbrev pub NoSessionIsOpen : Type 0
 NoSessionIsOpen = (core : Core) (calling serving : ℕ) (c s : Session) → Lawful core → IsVersion calling → IsVersion serving → CallerStandsStill core calling c → ServingStandsStill core serving s → (has_ended c ≡ true) × (has_ended s ≡ true)
 
+-- ---- a page whose peer has left
+
+-- the peer has left this page: its gone word isn't 0. Nothing else need hold of the page, on which a hostile user may have stored any number
+abbrev pub PeerHasLeft : Core → Role → Type 0
+PeerHasLeft core who = word_at core.orders core.words (peer_gone who) ≢ 0
+
+-- the last turn of a session was quiet, and the gone word of the peer that its drain loaded is that of the page
+pub data WasQuietHere (core : Core) (who : Role) : Session → Type 0 where
+  CallWasQuiet : (before now : CallerAt) (turn : CallerTurns Quiet before now) → IsGoneStill core who (loads_of (standing_of turn.2.found.side) turn.2.left.side.trail) → WasQuietHere core who (CallsWith now)
+  ServingWasQuiet : (before now : ServingAt) (turn : ServingTurns Quiet before now) → IsGoneStill core who (loads_of (standing_of turn.2.found.side) turn.2.left.side.trail) → WasQuietHere core who (ServesWith now)
+
+-- there is no such session where the peer has left
+abbrev pub NoSessionIsLeftAlone : Type 0
+NoSessionIsLeftAlone = (core : Core) (who : Role) (s : Session) → PeerHasLeft core who → ¬ WasQuietHere core who s
+
 -- ---- the other side of any page
 
 -- where a drain found nothing yet, and that is still so, the peer isn't retired: so the channel of an agent is over once the broker is done

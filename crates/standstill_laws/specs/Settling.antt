@@ -1,6 +1,6 @@
 -- When no call is live at the broker any more.
 -- Source: the messages are those of the qrexec protocol; the statement is this project's own.
-use Rattle.std.specs.Prelude.{◌≡◌, ℕ, true, false, List, [], ◌∷◌, length, map, filter_map, Option, Some, None, IsPermutation, if◌then◌else◌}
+use Rattle.std.specs.Prelude.{◌≡◌, ◌⊎◌, ℕ, true, false, List, [], ◌∷◌, length, map, filter_map, Option, Some, None, IsPermutation, if◌then◌else◌}
 use Rattle.qrexec_frame.specs.declared.message.Message.{Message}
 use Rattle.call_broker.specs.declared.event.Event.{Event}
 use Rattle.call_broker.specs.declared.event.Event.TheVariants.{Terminated}
@@ -30,10 +30,14 @@ abbrev pub EndsInOrder : Domains → ℕ → ℕ → List Entry → Type 0
 EndsInOrder hub f t [] = Unit {0}
 EndsInOrder hub f t (x ∷ journal) = ((port : ℕ) → ended_port hub f t x.event ≡ Some port → has port (accepted_ports journal f t) ≡ false) × EndsInOrder hub f t journal
 
--- where the end of each session of a pair was read, no call of the pair is live; no domain was dropped
+-- where the end of each session of a pair was read, no call of the pair is live, if neither of the two was dropped
 abbrev pub NoCallIsLive : Type 0
-NoCallIsLive = (hub : Domains) (journal : List Entry) (f t : ℕ) → IsJournal hub journal → ((d : ℕ) → is_dropped journal d ≡ false) → EndsInOrder hub f t journal
+NoCallIsLive = (hub : Domains) (journal : List Entry) (f t : ℕ) → IsJournal hub journal → is_dropped journal f ≡ false → is_dropped journal t ≡ false → EndsInOrder hub f t journal
     → ((port : ℕ) → has port (accepted_ports journal f t) ≡ true → has port (ended_ports hub journal f t) ≡ true) → live hub journal f t ≡ []
+
+-- nor is one live where one of the two was dropped
+abbrev pub NoCallOfDroppedIsLive : Type 0
+NoCallOfDroppedIsLive = (hub : Domains) (journal : List Entry) (f t : ℕ) → (is_dropped journal f ≡ true) ⊎ (is_dropped journal t ≡ true) → live hub journal f t ≡ []
 
 -- ---- all domains
 
@@ -50,7 +54,8 @@ pub record IsDone (hub : Domains) (awaited : List ℕ) (journal : List Entry) (s
   pub reads : read_from journal d ≡ filter_map (event_of d) sent
   pub all_said : IsPermutation (said d) (outbox hub journal d)
 
--- where each domain is done, none was dropped, and no call was let through at a port after the end of a session there was read, all domains are settled, at which the broker ends
+-- where each domain that wasn't dropped is done, and no call of two of them was let through at a port after the end of a session there was read, all domains are settled, at which the broker ends
 abbrev pub AllAreSettled : Type 0
-AllAreSettled = (hub : Domains) (awaited : List ℕ) (journal : List Entry) (said : ℕ → List Message) → IsJournal hub journal → ((d : ℕ) → is_dropped journal d ≡ false) → ((f t : ℕ) → EndsInOrder hub f t journal)
-    → ((d : ℕ) → is_domain hub d ≡ true → IsDone hub awaited journal said d) → AreSettled hub awaited journal said
+AllAreSettled = (hub : Domains) (awaited : List ℕ) (journal : List Entry) (said : ℕ → List Message) → IsJournal hub journal
+    → ((f t : ℕ) → is_domain hub f ≡ true → is_domain hub t ≡ true → is_dropped journal f ≡ false → is_dropped journal t ≡ false → EndsInOrder hub f t journal)
+    → ((d : ℕ) → is_domain hub d ≡ true → is_dropped journal d ≡ false → IsDone hub awaited journal said d) → AreSettled hub awaited journal said

@@ -1,8 +1,9 @@
--- A run of honest domains that stands still.
+-- A run that stands still, but for the hostile domains that the broker has dropped.
 -- Source: this project's own.
-use Rattle.std.specs.Prelude.{◌≡◌, ◌≢◌, ◌⊎◌, ℕ, ◌+◌, ◌<◌, true, false, List, [], length, map, Some, None}
+use Rattle.std.specs.Prelude.{◌≡◌, ◌≢◌, ◌⊎◌, ℕ, ◌+◌, ◌<◌, Bool, true, false, List, [], length, map, Some, None}
 use Rattle.std.specs.List.{AllByRecursion as Each}
 use Rattle.list_laws.specs.Lists.{AreDifferent}
+use Rattle.ring_words.specs.declared.page.Role.{Role}
 use Rattle.ring_words.specs.declared.page.Role.TheVariants.{Server, Client}
 use Rattle.vchan_protocol.specs.Answering.Loads.{loads_of}
 use Rattle.vchan_protocol.specs.History.Core.{Core, side_of, standing_of}
@@ -31,15 +32,16 @@ use Rattle.standstill_laws.specs.Control.{Talks}
 use Rattle.standstill_laws.specs.Saying.{StopsStill}
 use Rattle.standstill_laws.specs.Letters.{AreAtRest, IsPortOf}
 use Rattle.standstill_laws.specs.Asking.{heard_so_far}
-use Rattle.standstill_laws.specs.Sessions.{IsGoneStill, CallerStandsStill, ServingStandsStill}
+use Rattle.standstill_laws.specs.Sessions.{IsGoneStill, CallerStandsStill, ServingStandsStill, PeerHasLeft, WasQuietHere}
 use Rattle.standstill_laws.specs.Order.{HasGrown, AreSentInOrder}
 use Rattle.qrexec_data.specs.Laws.{IsVersion}
 
--- a session isn't open; or its page stands still, and so does the other side of it
+-- a session isn't open; or its page stands still, and so does the other side of it; or it was quiet on a page that its peer, a hostile domain, has left
 pub data SessionStandsStill (version : ℕ) (s : Session) : Type 0 where
   IsShut : is_open s ≡ false → SessionStandsStill version s
   AsCaller : (core : Core) (other : ℕ) (peer : Session) → Lawful core → IsVersion other → CallerStandsStill core version s → ServingStandsStill core other peer → SessionStandsStill version s
   AsServing : (core : Core) (other : ℕ) (peer : Session) → Lawful core → IsVersion other → CallerStandsStill core other peer → ServingStandsStill core version s → SessionStandsStill version s
+  IsLeftAlone : (core : Core) (who : Role) → PeerHasLeft core who → WasQuietHere core who s → SessionStandsStill version s
 
 -- an agent whose channel is up, on the control page of its domain: its turn said no more, for a reason that is still so, and its sessions stand still
 pub record AgentStandsStill (hub : Domains) (journal : List Entry) (core : Core) (task : AgentState) : Type 0 where
@@ -76,10 +78,11 @@ pub record DomainStandsStill (hub : Domains) (awaited : List ℕ) (journal : Lis
   pub count : length task.plan.calls ≡ awaited_of awaited (place + 1)
   pub agent : AgentStandsStill hub journal (rest place line there up).core task
 
--- where all that is so of each domain and none was dropped, all are settled: so the broker is done, since its task goes on only while they aren't
+-- where each domain was dropped, or is honest and all that is so of it, all are settled: so the broker is done, since its task goes on only while they aren't
 abbrev pub RunsDoNotStandStill : Type 0
-RunsDoNotStandStill = (hub : Domains) (awaited : List ℕ) (journal : List Entry) (said : ℕ → List Message) (lines : List BrokerLine) → IsJournal hub journal → HasGrown hub journal → ((d : ℕ) → is_dropped journal d ≡ false) → HoldsForExecs lines
-    → NoneIsLost hub journal said lines → (rest : AreAtRest lines) → ((place : ℕ) → place < count_of hub → DomainStandsStill hub awaited journal said lines rest place) → AreSettled hub awaited journal said
+RunsDoNotStandStill = (hub : Domains) (honest : ℕ → Bool) (awaited : List ℕ) (journal : List Entry) (said : ℕ → List Message) (lines : List BrokerLine) → IsJournal hub journal → HasGrown hub honest journal → HoldsForExecs lines
+    → NoneIsLost hub journal said lines → (rest : AreAtRest lines)
+    → ((place : ℕ) → place < count_of hub → (is_dropped journal (place + 1) ≡ true) ⊎ ((honest (place + 1) ≡ true) × DomainStandsStill hub awaited journal said lines rest place)) → AreSettled hub awaited journal said
 
 -- ---- once the broker is done
 

@@ -8,8 +8,8 @@ ghost use Rattle.standstill_laws.specs.Saying.{AgentsHaveSaidAll, BrokerHasSaidA
 ghost use Rattle.standstill_laws.specs.Letters.{AllAnswersAreSaid, AllAnswersAreHeard};
 ghost use Rattle.standstill_laws.specs.Answers.{EachTriggerIsAnswered, AllCallsAreAnswered};
 ghost use Rattle.standstill_laws.specs.Asking.{AgentsHaveAskedAll, NoSessionBegins};
-ghost use Rattle.standstill_laws.specs.Sessions.{NoSessionIsOpen, PeerIsThere};
-ghost use Rattle.standstill_laws.specs.Settling.{NoCallIsLive, AllAreSettled};
+ghost use Rattle.standstill_laws.specs.Sessions.{NoSessionIsOpen, NoSessionIsLeftAlone, PeerIsThere};
+ghost use Rattle.standstill_laws.specs.Settling.{NoCallIsLive, NoCallOfDroppedIsLive, AllAreSettled};
 ghost use Rattle.standstill_laws.specs.Standstill.{RunsDoNotStandStill, NoAgentIsLeft};
 ghost use Rattle.standstill_laws.specs.Keeping.{FindingsStay};
 ghost use Rattle.standstill_laws.specs.Counting.{TurnsAreBounded};
@@ -93,6 +93,13 @@ pub fn no_session_is_open()
     ensures { NoSessionIsOpen }
 {}
 
+/// A session doesn't stand still on a page that its peer has left: where the gone word of the peer isn't 0, whatever else
+/// a hostile user stored there, no session's last turn was quiet if the gone word that its drain loaded is still that of
+/// the page.
+pub fn no_session_is_left_alone()
+    ensures { NoSessionIsLeftAlone }
+{}
+
 /// Where a drain found nothing yet, and the gone word that it loaded hasn't changed since, the peer isn't retired.
 /// So once the broker is done the channel of each agent is over, or its next drain finds that.
 pub fn peer_is_there()
@@ -113,14 +120,20 @@ pub fn no_session_begins()
 {}
 
 /// Where the broker has read the end of each session of a pair of domains, no call of the pair is live there, if
-/// no domain was dropped, and no call was let through at a port after the end of a session there was read.
+/// neither of the two was dropped, and no call was let through at a port after the end of a session there was read.
 pub fn no_call_is_live()
     ensures { NoCallIsLive }
 {}
 
-/// In a journal that grows turn by turn, no call is let through at a port after the end of a session there was
-/// read, if each report of an end that the broker reads in a turn was sent by an agent which owed it by what it
-/// had heard, and if all of that was in the outbox of its domain before the turn.
+/// Nor is a call of a pair live where one of its two domains was dropped.
+pub fn no_call_of_dropped_is_live()
+    ensures { NoCallOfDroppedIsLive }
+{}
+
+/// In a journal that grows turn by turn, no call between honest domains is let through at a port after the end of a
+/// session there was read, if each report of an end that the broker reads from an honest domain in a turn was sent by
+/// an agent which owed it by what it had heard, and if all of that was in the outbox of its domain before the turn.
+/// Any other domain may send any.
 pub fn ends_come_in_order()
     ensures { EndsComeInOrder }
 {}
@@ -138,18 +151,19 @@ pub fn agents_hear_in_order()
     ensures { AgentsHearInOrder }
 {}
 
-/// Where the agent of each domain has asked for all its calls, heard all that the broker's journal puts into the
-/// domain's outbox, and reported the end of each session that it owed to report, and the broker has read all of
-/// that, all domains are settled, at which the broker ends. No domain was dropped, and no call was let through
-/// at a port after the end of a session there was read.
+/// Where the agent of each domain that wasn't dropped has asked for all its calls, heard all that the broker's journal
+/// puts into the domain's outbox, and reported the end of each session that it owed to report, and the broker has read
+/// all of that, all domains are settled, at which the broker ends. No call of two of these domains was let through at
+/// a port after the end of a session there was read.
 pub fn all_are_settled()
     ensures { AllAreSettled }
 {}
 
-/// A run of honest domains doesn't stand still before its broker is done. Where the broker said nothing to any
-/// domain, no agent said anything though it might have asked for a call, no session moved anything, and what all
-/// of them found is still so, all domains are settled; a broker's task goes on only while they aren't. None was
-/// dropped, and messages were sent and read in the order in which tasks do so.
+/// A run doesn't stand still before its broker is done, with hostile domains or without, if the broker has dropped each
+/// hostile one. Where it said nothing to any other domain, no agent said anything though it might have asked for a call,
+/// no session moved anything, and what all of them found is still so, all domains are settled; a broker's task goes on
+/// only while they aren't. A session with a hostile domain is on a page that this domain has left, and messages of honest
+/// domains were sent and read in the order in which tasks do so.
 pub fn runs_do_not_stand_still()
     ensures { RunsDoNotStandStill }
 {}
