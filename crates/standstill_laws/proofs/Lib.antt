@@ -30,3 +30,4 @@ mod StretchesLaws
 mod FairLaws
 mod StepLaws
 mod LeavingLaws
+mod HostileLaws

@@ -30,7 +30,7 @@ gone_told core l Server = l.lives.client_words.gone.word
 gone_told core l Client = l.lives.server_words.gone.word
 
 -- so if what it found is still so, its peer hasn't left
-not_left : (core : Core) (who : Role) (before now : SeatedEnd) → (f : FindsNotYet before now) → IsGoneStill core who (loads_of (standing_of before.side) now.side.trail) → word_at core.orders core.words (peer_gone who) ≡ 0
+pub not_left : (core : Core) (who : Role) (before now : SeatedEnd) → (f : FindsNotYet before now) → IsGoneStill core who (loads_of (standing_of before.side) now.side.trail) → word_at core.orders core.words (peer_gone who) ≡ 0
 not_left core who before now f still =
     let here : FoundHere (loads_of (standing_of before.side) now.side.trail) = here_by (standing_of before.side) f.most (loads_of (standing_of before.side) now.side.trail) f.prod f.cons f.cause in
     let same : Some 0 ≡ Some (word_at core.orders core.words (peer_gone who)) = sym here ∙ still in

@@ -23,3 +23,4 @@ pub mod Lasting
 pub mod Idle
 pub mod Stretches
 pub mod Leaving
+pub mod Hostile

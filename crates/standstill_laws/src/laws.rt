@@ -23,6 +23,7 @@ ghost use Rattle.standstill_laws.specs.Resting.{OutboxesAreEmpty};
 ghost use Rattle.standstill_laws.specs.Lasting.{NoRunLasts};
 ghost use Rattle.standstill_laws.specs.Stretches.{NoStretchLasts, StretchesAreShort, FairRunsAreBounded};
 ghost use Rattle.standstill_laws.specs.Leaving.{NoAgentLasts, LeavingIsShort, WholeRunsAreBounded};
+ghost use Rattle.standstill_laws.specs.Hostile.{LeftAreDropped, NoHostileTaskRests};
 ghost use Rattle.standstill_laws.specs.Order.{EndsComeInOrder, NoneIsEarly, AgentsHearInOrder};
 
 /// If both ends of a page between honest ends drained it and found nothing, and no index changed since, then
@@ -159,6 +160,13 @@ pub fn all_are_settled()
     ensures { AllAreSettled }
 {}
 
+/// A hostile domain that has left is dropped: a turn of the broker in which it heard nothing from the domain and said
+/// nothing to it has dropped it, or it was dropped before, if the gone word that the broker loaded is still that of the
+/// page.
+pub fn left_are_dropped()
+    ensures { LeftAreDropped }
+{}
+
 /// A run doesn't stand still before its broker is done, with hostile domains or without, if the broker has dropped each
 /// hostile one. Where it said nothing to any other domain, no agent said anything though it might have asked for a call,
 /// no session moved anything, and what all of them found is still so, all domains are settled; a broker's task goes on
@@ -224,6 +232,12 @@ pub fn no_stretch_lasts()
 /// In a stretch of turns of all tasks that did nothing, each task rests: none of its own turns did anything.
 pub fn stretches_rest()
     ensures { StretchesRest }
+{}
+
+/// A task that has a turn in such a stretch isn't that of a hostile domain, each turn of which is one of its acts: so if
+/// each task that goes on has one, none of these is hostile.
+pub fn no_hostile_task_rests()
+    ensures { NoHostileTaskRests }
 {}
 
 /// While the agents at both ends of an open session rest, nothing comes or goes on its page, and no end is opened,

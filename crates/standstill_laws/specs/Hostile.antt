@@ -1,0 +1,34 @@
+-- Hostile domains at a standstill: each of their turns is one of their acts, and the broker drops those that have left.
+-- Source: this project's own.
+use Rattle.std.specs.Prelude.{◌≡◌, ℕ, true, List}
+use Rattle.std.specs.List.{AllByRecursion as Each}
+use Rattle.list_laws.specs.Lists.{SomeOf}
+use Rattle.ring_words.specs.declared.page.Role.TheVariants.{Client}
+use Rattle.vchan_protocol.specs.Answering.Loads.{loads_of}
+use Rattle.vchan_protocol.specs.History.Core.{Core, standing_of}
+use Rattle.vchan_rule.specs.Seated.{view}
+use Rattle.broker_task.specs.Lines.{is_shut}
+use Rattle.broker_task.specs.Moving.{BrokerLine, HasMoved, IsQuiet, HasTurned}
+use Rattle.domain_task.specs.declared.task.Task.{Task}
+use Rattle.domain_task.specs.declared.task.Task.TheVariants.{Hostile}
+use Rattle.domain_task.specs.Working.{DoesNothing}
+use Rattle.standstill_laws.specs.Counting.{TurnMade, AreMade}
+use Rattle.standstill_laws.specs.Sessions.{IsGoneStill, PeerHasLeft}
+
+-- ---- the broker
+
+-- a domain has left its control page, the broker's turn heard nothing from it and said nothing to it, and the gone word that it loaded is that of the page: then the domain is dropped
+abbrev pub LeftAreDropped : Type 0
+LeftAreDropped = (core : Core) (old new : BrokerLine) → PeerHasLeft core Client → HasTurned old new → ¬ HasMoved old new → ((q : IsQuiet old new) → IsGoneStill core Client (loads_of (standing_of q.hears.began.side) q.heard.side.trail))
+    → is_shut (view new.end).state ≡ true
+
+-- ---- the hostile domains themselves
+
+abbrev pub IsHostile : Task → Type 0
+IsHostile (Hostile task) = Unit {0}
+IsHostile task = ⊥
+
+-- a task that has a turn in a stretch of turns which did nothing isn't that of a hostile domain: so if each task that goes on has one, none of these is
+abbrev pub NoHostileTaskRests : Type 0
+NoHostileTaskRests = (many : ℕ) (first last : ℕ → Task) (turns : List TurnMade) → AreMade many first turns last → Each (λ made. DoesNothing made.before made.now) turns
+    → (place : ℕ) → SomeOf (λ made. made.place ≡ place) turns → ¬ IsHostile (first place) × ¬ IsHostile (last place)
