@@ -1,5 +1,5 @@
--- The broker drops domains that have left, and no hostile one rests.
-use Rattle.std.proofs.Common.{◌≡◌, ◌≢◌, ◌⊎◌, ℕ, ◌≤◌, ◌==◌, Bool, true, false, List, [], ◌∷◌, length, refl, sym, ap, ◌∙◌, subst, arith, inl, inr, Option}
+-- Sessions with domains that have left end, the broker drops these domains, and no hostile one rests.
+use Rattle.std.proofs.Common.{◌≡◌, ◌≢◌, ◌⊎◌, ℕ, ◌+◌, ◌<◌, ◌≤◌, ◌==◌, zero, suc, Bool, true, false, List, [], ◌∷◌, length, refl, sym, ap, ◌∙◌, subst, arith, inl, inr, Option}
 use Rattle.std.specs.Prelude.{not, IsSome}
 use Rattle.std.proofs.lemmas.Bool.Decides.{eqb_tells, nat_tests}
 use Rattle.std.specs.List.{AllByRecursion as Each}
@@ -16,6 +16,8 @@ use Rattle.vchan_protocol.specs.Honest.RingLaw.{word_at}
 use Rattle.vchan_protocol.proofs.Answering.AnswerLaws.{has_cause}
 use Rattle.vchan_lifecycle.specs.Lifecycle.{FindsNotYet}
 use Rattle.vchan_rule.specs.Seated.{SeatedEnd, view}
+use Rattle.channel_session.specs.Turning.{Pace}
+use Rattle.agent_slots.specs.Sessions.{Session, CallsWith, ServesWith}
 use Rattle.broker_task.specs.Lines.{is_shut}
 use Rattle.broker_task.specs.Moving.{BrokerLine, FindsHere, HasMoved, IsQuiet}
 use Rattle.domain_task.specs.declared.task.Task.{Task}
@@ -24,10 +26,36 @@ use Rattle.domain_task.specs.Working.{DoesNothing}
 use Rattle.standstill_laws.specs.Counting.{TurnMade, tasks_after, AreMade, NoneIsMade, OneIsMade}
 use Rattle.standstill_laws.specs.Stretch.{RestsOn, NoTurn, OneTurn}
 use Rattle.standstill_laws.specs.Sessions.{IsGoneStill}
-use Rattle.standstill_laws.specs.Hostile.{LeftAreDropped, IsHostile, NoHostileTaskRests}
+use Rattle.standstill_laws.specs.Hostile.{RestsAlone, NoneMade, CallQuiet, CallPassed, ServingQuiet, ServingPassed, NoSessionRestsAlone, LeftAreDropped, IsHostile, NoHostileTaskRests}
 use Rattle.standstill_laws.proofs.CountingLaws.{passed_over}
 use Rattle.standstill_laws.proofs.OverLaws.{not_left}
 use Rattle.standstill_laws.proofs.StretchLaws.{stretches_rest_lem}
+
+-- ---- sessions
+
+-- how many turns of a session were passed over since the last one that was made
+abbrev passed_in : Session → ℕ
+passed_in (CallsWith at) = at.pace.passed
+passed_in (ServesWith at) = at.pace.passed
+passed_in session = 0
+
+one_more : (n before now : ℕ) → now ≡ before + 1 → before < 7 → (n ≡ 0) ⊎ (n + now ≤ 7) → (suc n ≡ 0) ⊎ (suc n + before ≤ 7)
+one_more n before now is may (inl none) = inr (omega (arith, none, may))
+one_more n before now is may (inr few) = inr (omega (arith, is, few))
+
+few_rest : (who : Role) (n : ℕ) (first last : Session) → RestsAlone who n first last → (n ≡ 0) ⊎ (n + passed_in first ≤ 7)
+few_rest who zero first last (NoneMade s) = inl refl
+few_rest who (suc n) first last (CallQuiet n' core before now last' turn left still rest) = absurd (left (not_left core who turn.2.found turn.2.left turn.2.not_yet still))
+few_rest who (suc n) first last (ServingQuiet n' core before now last' turn left still rest) = absurd (left (not_left core who turn.2.found turn.2.left turn.2.not_yet still))
+few_rest who (suc n) first last (CallPassed n' before now last' turn rest) = one_more n before.pace.passed now.pace.passed (ap (λ (p : Pace). p.passed) turn.1.pace) turn.1.may.1 (few_rest who n (CallsWith now) last rest)
+few_rest who (suc n) first last (ServingPassed n' before now last' turn rest) = one_more n before.pace.passed now.pace.passed (ap (λ (p : Pace). p.passed) turn.1.pace) turn.1.may.1 (few_rest who n (ServesWith now) last rest)
+
+pub no_session_rests_alone_lem : NoSessionRestsAlone
+no_session_rests_alone_lem who n first last rests = by_count (few_rest who n first last rests)
+  where
+    by_count : (n ≡ 0) ⊎ (n + passed_in first ≤ 7) → n < 8
+    by_count (inl none) = omega (arith, none)
+    by_count (inr few) = omega (arith, few)
 
 -- ---- the broker
 

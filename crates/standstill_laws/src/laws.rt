@@ -23,7 +23,7 @@ ghost use Rattle.standstill_laws.specs.Resting.{OutboxesAreEmpty};
 ghost use Rattle.standstill_laws.specs.Lasting.{NoRunLasts};
 ghost use Rattle.standstill_laws.specs.Stretches.{NoStretchLasts, StretchesAreShort, FairRunsAreBounded};
 ghost use Rattle.standstill_laws.specs.Leaving.{NoAgentLasts, LeavingIsShort, WholeRunsAreBounded};
-ghost use Rattle.standstill_laws.specs.Hostile.{LeftAreDropped, NoHostileTaskRests};
+ghost use Rattle.standstill_laws.specs.Hostile.{LeftAreDropped, NoHostileTaskRests, NoSessionRestsAlone};
 ghost use Rattle.standstill_laws.specs.Order.{EndsComeInOrder, NoneIsEarly, AgentsHearInOrder};
 
 /// If both ends of a page between honest ends drained it and found nothing, and no index changed since, then
@@ -99,6 +99,12 @@ pub fn no_session_is_open()
 /// the page.
 pub fn no_session_is_left_alone()
     ensures { NoSessionIsLeftAlone }
+{}
+
+/// Nor does a session make eight turns in a row in which nothing moves, once its peer has left the page: where each drain
+/// of them that found nothing loaded the gone word as it was then.
+pub fn no_session_rests_alone()
+    ensures { NoSessionRestsAlone }
 {}
 
 /// Where a drain found nothing yet, and the gone word that it loaded hasn't changed since, the peer isn't retired.
