@@ -1,5 +1,5 @@
 -- Where all that a run's tasks found in turns that did nothing is put together, the broker is done.
-use Rattle.std.proofs.Common.{◌≡◌, ℕ, true, false, List, refl, sym, ◌∙◌, subst}
+use Rattle.std.proofs.Common.{◌≡◌, ℕ, true, false, List, refl, sym, ◌∙◌, subst, inr}
 use Rattle.agent_slots.specs.Sessions.{Session, is_open, session_at}
 use Rattle.broker_task.specs.declared.outbox.Letter.{Letter}
 use Rattle.broker_task.specs.Given.{BrokerState}
@@ -73,4 +73,4 @@ stands_still_so was now then r place d =
 
 pub no_run_lasts_lem : NoRunLasts
 no_run_lasts_lem was now then r =
-    r.stands.1 (runs_do_not_stand_still_lem now.hub now.awaited now.journal r.stands.0.said now.lines r.stands.0.decided r.grown r.undropped r.stands.3 r.stands.2 (at_rest was now then r) (λ place less. stands_still_so was now then r place (r.domains place less)))
+    r.stands.1 (runs_do_not_stand_still_lem now.hub (λ d. true) now.awaited now.journal r.stands.0.said now.lines r.stands.0.decided r.grown r.stands.3 r.stands.2 (at_rest was now then r) (λ place less. inr (refl, stands_still_so was now then r place (r.domains place less))))

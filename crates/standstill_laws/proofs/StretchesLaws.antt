@@ -309,4 +309,4 @@ domain_lasts pages first now last turns next rest r place less =
 
 pub no_stretch_lasts_lem : NoStretchLasts
 no_stretch_lasts_lem pages first now last turns next rest r =
-    no_run_lasts_lem (turn_to pages first now last turns next rest r).before r.so.broker r.so.then (record { stands = r.so.stands; grown = r.so.grown; undropped = r.so.undropped; lines = line_lasts pages first now last turns next rest r; domains = domain_lasts pages first now last turns next rest r })
+    no_run_lasts_lem (turn_to pages first now last turns next rest r).before r.so.broker r.so.then (record { stands = r.so.stands; grown = r.so.grown; lines = line_lasts pages first now last turns next rest r; domains = domain_lasts pages first now last turns next rest r })

@@ -9,7 +9,6 @@ use Rattle.vchan_rule.specs.Seated.{view}
 use Rattle.qrexec_frame.specs.declared.message.Message.{Message}
 use Rattle.call_broker.specs.declared.decision.Entry.{Entry}
 use Rattle.call_broker.specs.Domains.{Domains, count_of}
-use Rattle.call_broker.specs.Journal.{is_dropped}
 use Rattle.task_duties.specs.Words.{ident_of}
 use Rattle.task_duties.specs.Broker.Owes.{broker_version, awaited_of}
 use Rattle.task_duties.specs.declared.turn.TaskTurn.TheVariants as own
@@ -88,8 +87,7 @@ pub record DomainLasts (was now then : BrokerState) (said : ℕ → List Message
 -- the broker went on after a turn, and that turn and its next one did nothing; between the two all domains stood so
 pub record RunLasts (was now then : BrokerState) : Type 0 where
   pub stands : StandsAfter (own.Again now)
-  pub grown : HasGrown now.hub now.journal
-  pub undropped : (d : ℕ) → is_dropped now.journal d ≡ false
+  pub grown : HasGrown now.hub (λ d. true) now.journal
   pub lines : (place : ℕ) (line : BrokerLine) → IsAt now.lines place line → LineLasts was.lines then.lines place line
   pub domains : (place : ℕ) → place < count_of now.hub → DomainLasts was now then stands.0.said lines place
 

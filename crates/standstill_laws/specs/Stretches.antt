@@ -9,7 +9,6 @@ use Rattle.vchan_protocol.specs.History.Core.{Core}
 use Rattle.vchan_rule.specs.Seated.{view}
 use Rattle.qrexec_frame.specs.declared.message.Message.{Message}
 use Rattle.call_broker.specs.Domains.{Domains, count_of}
-use Rattle.call_broker.specs.Journal.{is_dropped}
 use Rattle.task_duties.specs.Words.{ident_of}
 use Rattle.task_duties.specs.Broker.Owes.{broker_version, awaited_of}
 use Rattle.task_duties.specs.declared.turn.TaskTurn.TheVariants as own
@@ -141,8 +140,7 @@ pub record StretchStands (pages : RunPages) (first now last : ℕ → Task) (tur
   -- what the contract says of the broker after its turn before that one, and what no contract says
   pub stands : StandsAfter (own.Again broker)
   pub lines : length broker.lines ≡ count_of broker.hub
-  pub grown : HasGrown broker.hub broker.journal
-  pub undropped : (d : ℕ) → is_dropped broker.journal d ≡ false
+  pub grown : HasGrown broker.hub (λ d. true) broker.journal
   pub domains : (place : ℕ) (line : BrokerLine) → IsAt broker.lines place line → DomainStays pages first now last broker then stands.0.said place line
 
 -- before that turn the broker and each agent made one, and eight of all the turns are those of each agent
