@@ -1,5 +1,5 @@
 -- Where each task has its turn again and again, turns that did nothing are soon followed by one that did something.
-use Rattle.std.proofs.Common.{◌≡◌, ◌≢◌, ◌⊎◌, ℕ, ◌+◌, ◌*◌, ◌<◌, ◌≤◌, ◌==◌, zero, suc, true, false, List, [], ◌∷◌, ◌++◌, length, length-append, append_assoc, refl, sym, ap, ◌∙◌, subst, arith, inl, inr}
+use Rattle.std.proofs.Common.{◌≡◌, ◌≢◌, ◌⊎◌, ℕ, ◌+◌, ◌*◌, ◌<◌, ◌≤◌, ◌==◌, zero, suc, Bool, true, false, List, [], ◌∷◌, ◌++◌, length, length-append, append_assoc, refl, sym, ap, ◌∙◌, subst, arith, inl, inr}
 use Rattle.std.specs.Prelude.{cond}
 use Rattle.std.specs.List.{AllByRecursion as Each}
 use Rattle.std.proofs.lemmas.Bool.Decides.{eqb_tells}
@@ -8,8 +8,9 @@ use Rattle.call_broker.specs.Domains.{Domains, count_of}
 use Rattle.domain_task.specs.declared.task.Task.{Task}
 use Rattle.domain_task.specs.Working.{DoesNothing}
 use Rattle.standstill_laws.specs.Counting.{TurnMade, tasks_after, AreMade, NoneIsMade, OneIsMade}
-use Rattle.standstill_laws.specs.Stretches.{turns_of, IsFair, StretchesAreShort, FairRunsAreBounded}
+use Rattle.standstill_laws.specs.Stretches.{turns_of, IsHonestPlace, IsFair, StretchesAreShort, FairTurnsAreBounded, FairRunsAreBounded}
 use Rattle.standstill_laws.proofs.AnswerLaws.{count_same}
+use Rattle.standstill_laws.proofs.CountingLaws.{turns_are_bounded_lem}
 use Rattle.standstill_laws.proofs.WorkLaws.{run_turns_are_bounded_lem}
 use Rattle.standstill_laws.proofs.StretchesLaws.{no_stretch_lasts_lem}
 
@@ -73,43 +74,47 @@ made_split many first last (x ∷ a) b (OneIsMade tasks last' made turns placed 
 -- ---- fairness
 
 -- in so many times the turns of a round each task has so many turns
-fair_rounds : (many round : ℕ) (turns : List TurnMade) → IsFair many round turns → (place : ℕ) → place < many → (k : ℕ) (before row after : List TurnMade) → turns ≡ before ++ row ++ after → length row ≡ k * round → k ≤ turns_of place row
-fair_rounds many round turns fair place less zero before row after parts long = omega arith
-fair_rounds many round turns fair place less (suc k) before row after parts long =
+fair_rounds : (hub : Domains) (honest : ℕ → Bool) (round : ℕ) (turns : List TurnMade) → IsFair hub honest round turns → (place : ℕ) → IsHonestPlace hub honest place → (k : ℕ) (before row after : List TurnMade) → turns ≡ before ++ row ++ after → length row ≡ k * round → k ≤ turns_of place row
+fair_rounds hub honest round turns fair place mine zero before row after parts long = omega arith
+fair_rounds hub honest round turns fair place mine (suc k) before row after parts long =
     let s = split_at round row (omega (arith, long)) in
     let lengths = ap (λ (l : List TurnMade). length l) s.is ∙ length-append s.front s.back in
-    let one = fair before s.front (s.back ++ after) (at_front turns before row after s.front s.back parts s.is) s.long place less in
-    let others = fair_rounds many round turns fair place less k (before ++ s.front) s.back after (at_back turns before row after s.front s.back parts s.is) (omega (arith, long, lengths, s.long)) in
+    let one = fair before s.front (s.back ++ after) (at_front turns before row after s.front s.back parts s.is) s.long place mine in
+    let others = fair_rounds hub honest round turns fair place mine k (before ++ s.front) s.back after (at_back turns before row after s.front s.back parts s.is) (omega (arith, long, lengths, s.long)) in
     let sum = ap (turns_of place) s.is ∙ turns_append place s.front s.back in
     omega (arith, one, others, sum)
 
 pub stretches_are_short_lem : StretchesAreShort
-stretches_are_short_lem hub round first last turns made fair stand before resting after parts long nothing =
+stretches_are_short_lem hub honest round first last turns made fair stand before resting after parts long nothing =
     let many = count_of hub + 1 in
     let did : TurnMade → Type 0 = λ (m : TurnMade). DoesNothing m.before m.now in
     let s = split_at (7 * round) resting (omega (arith, long)) in
     let lengths = ap (λ (l : List TurnMade). length l) s.is ∙ length-append s.front s.back in
-    let f = first_turn 0 s.back (fair (before ++ s.front) s.back after (at_back turns before resting after s.front s.back parts s.is) (omega (arith, long, lengths, s.long)) 0 (omega arith)) in
+    let f = first_turn 0 s.back (fair (before ++ s.front) s.back after (at_back turns before resting after s.front s.back parts s.is) (omega (arith, long, lengths, s.long)) 0 (inl refl)) in
     let row : List TurnMade = s.front ++ f.before in
     let all : resting ≡ row ++ f.made ∷ f.after = s.is ∙ ap (λ (l : List TurnMade). s.front ++ l) f.is ∙ sym (append_assoc s.front f.before (f.made ∷ f.after)) in
     let two = made_split many first last (before ++ resting) after (subst (λ (l : List TurnMade). AreMade many first l last) parts made) in
     let one = made_split many first two.mid before resting two.front in
     let three = made_split many one.mid two.mid row (f.made ∷ f.after) (subst (λ (l : List TurnMade). AreMade many one.mid l two.mid) all one.back) in
-    let some : (place : ℕ) → place < many → 0 < turns_of place row =
-    λ place less. omega (arith, fair_rounds many round turns fair place less 7 before s.front (s.back ++ after) (at_front turns before resting after s.front s.back parts s.is) s.long, turns_append place s.front f.before) in
-    let eight : (place : ℕ) → place < many → 8 ≤ turns_of place (row ++ f.made ∷ f.after) =
-    λ place less. subst (λ (l : List TurnMade). 8 ≤ turns_of place l) all (fair_rounds many round turns fair place less 8 before resting after parts long) in
-    let so = stand before row f.after after f.made one.mid three.mid two.mid (parts ∙ ap (λ (l : List TurnMade). before ++ l ++ after) all) three.front three.back f.place_is (λ place less. (some place less, eight place less)) (subst (Each did) all nothing) in
-    no_stretch_lasts_lem so.0 one.mid three.mid two.mid row f.made f.after (record {
+    let some : (place : ℕ) → IsHonestPlace hub honest place → 0 < turns_of place row =
+    λ place mine. omega (arith, fair_rounds hub honest round turns fair place mine 7 before s.front (s.back ++ after) (at_front turns before resting after s.front s.back parts s.is) s.long, turns_append place s.front f.before) in
+    let eight : (place : ℕ) → IsHonestPlace hub honest place → 8 ≤ turns_of place (row ++ f.made ∷ f.after) =
+    λ place mine. subst (λ (l : List TurnMade). 8 ≤ turns_of place l) all (fair_rounds hub honest round turns fair place mine 8 before resting after parts long) in
+    let so = stand before row f.after after f.made one.mid three.mid two.mid (parts ∙ ap (λ (l : List TurnMade). before ++ l ++ after) all) three.front three.back f.place_is (λ place mine. (some place mine, eight place mine)) (subst (Each did) all nothing) in
+    no_stretch_lasts_lem honest so.0 one.mid three.mid two.mid row f.made f.after (record {
       so = so.1.0;
       made = subst (λ (h : Domains). AreMade (count_of h + 1) one.mid row three.mid) (sym so.1.1) three.front;
       made_rest = subst (λ (h : Domains). AreMade (count_of h + 1) three.mid (f.made ∷ f.after) two.mid) (sym so.1.1) three.back;
       next_place = f.place_is;
-      broker_turned = some 0 (omega arith);
-      agents_turned = λ place less. some (place + 1) (omega (arith, less, ap (λ (h : Domains). count_of h) so.1.1));
-      agents_turned_on = λ place less. eight (place + 1) (omega (arith, less, ap (λ (h : Domains). count_of h) so.1.1));
+      broker_turned = some 0 (inl refl);
+      agents_turned = λ place mine. some (place + 1) (inr (omega (arith, mine.0, ap (λ (h : Domains). count_of h) so.1.1), mine.1));
+      agents_turned_on = λ place mine. eight (place + 1) (inr (omega (arith, mine.0, ap (λ (h : Domains). count_of h) so.1.1), mine.1));
     })
 
+pub fair_turns_are_bounded_lem : FairTurnsAreBounded
+fair_turns_are_bounded_lem hub honest round first last turns some made fair stand =
+    turns_are_bounded_lem (count_of hub + 1) (8 * round) first last turns (omega (arith, some)) made (stretches_are_short_lem hub honest round first last turns made fair stand)
+
 pub fair_runs_are_bounded_lem : FairRunsAreBounded
-fair_runs_are_bounded_lem hub round first last turns broker agents some made fair stand run =
-    run_turns_are_bounded_lem hub (8 * round) first last turns broker agents (omega (arith, some)) made (stretches_are_short_lem hub round first last turns made fair stand) run
+fair_runs_are_bounded_lem hub honest round first last turns broker agents some made fair stand run =
+    run_turns_are_bounded_lem hub (8 * round) first last turns broker agents (omega (arith, some)) made (stretches_are_short_lem hub honest round first last turns made fair stand) run

@@ -2,6 +2,8 @@
 use Rattle.std.proofs.Common.{◌≡◌, ◌≢◌, ◌⊎◌, ℕ, ◌+◌, ◌<◌, ◌==◌, zero, suc, Bool, true, false, List, [], ◌∷◌, length, refl, sym, ap, ◌∙◌, subst, arith, inl, inr}
 use Rattle.std.specs.List.{AllZip as EachPair, AllByRecursion as Each}
 use Rattle.std.proofs.lemmas.Bool.Decides.{eqb_tells}
+use Rattle.ring_words.specs.declared.page.Role.{Role}
+use Rattle.vchan_protocol.specs.History.Core.{Core}
 use Rattle.qrexec_data.specs.Laws.{IsVersion}
 use Rattle.task_pool.specs.declared.task.Turn.TheVariants.{Again}
 use Rattle.channel_session.specs.declared.pause.Turned.{Turned}
@@ -21,8 +23,11 @@ use Rattle.domain_task.specs.Turning.{AgentTurns}
 use Rattle.domain_task.specs.Working.{DoesNothing, SessionRests, CallerRests, ServingRests, PageAwaited, HasNotBegun, HadEnded, AgentRests, Rests}
 use Rattle.standstill_laws.specs.Counting.{TurnMade, tasks_after, AreMade, NoneIsMade, OneIsMade}
 use Rattle.standstill_laws.specs.Pace.{CallRests, NoTurn, QuietTurn, PassedTurn, ServingRests as ServesOn, NoServing, QuietServing, PassedServing}
-use Rattle.standstill_laws.specs.Idle.{Span, RunPages, CallFound, ServingFound, SessionFound, AgentFound, LineFound, LinesFound, IsIdle, AgentIsIdle, BrokerIsIdle}
-use Rattle.standstill_laws.specs.Stretches.{turns_of}
+use Rattle.standstill_laws.specs.Idle.{Span, SessionPage, OfHonest, OfHostile, RunPages, CallFound, ServingFound, SessionFound, AgentFound, LineFound, LinesFound, IsIdle, AgentIsIdle, BrokerIsIdle}
+use Rattle.standstill_laws.specs.Stretches.{turns_of, IsSide, StaysAlone}
+use Rattle.standstill_laws.specs.Sessions.{PeerHasLeft}
+use Rattle.standstill_laws.specs.Hostile.{RestsAlone, NoneMade, CallQuiet, CallPassed, ServingQuiet, ServingPassed}
+use Rattle.standstill_laws.proofs.HostileLaws.{no_session_rests_alone_lem}
 use Rattle.standstill_laws.proofs.AnswerLaws.{count_more, count_same}
 use Rattle.standstill_laws.proofs.CountingLaws.{chosen, passed_over}
 use Rattle.standstill_laws.proofs.StretchLaws.{same_agent}
@@ -110,8 +115,8 @@ record Goes (Kind : Session → Type 0) (R : ℕ → Session → Session → Typ
   kind : Kind new
   more : (n : ℕ) (then : Session) → R n new then → R (suc n) old then
 
-abbrev EachGoes : (Session → Type 0) → (ℕ → Session → Session → Type 0) → Span → Type 0
-EachGoes Kind R span = (version : ℕ) (old new : Session) (r : SessionRests old new) → SessionFound span old new r → IsVersion version → SessionStands version old → Kind old → Goes Kind R old new
+abbrev EachGoes : (Session → Type 0) → (ℕ → Session → Session → Type 0) → SessionPage → Type 0
+EachGoes Kind R page = (version : ℕ) (old new : Session) (r : SessionRests old new) → SessionFound page old new r → IsVersion version → SessionStands version old → Kind old → Goes Kind R old new
 
 -- the agent at the end of a stretch, and its session
 record EndsSo (R : ℕ → Session → Session → Type 0) (i count : ℕ) (old : Session) (last : Task) : Type 0 where
@@ -169,7 +174,7 @@ pub record CallsOn (span : Span) (n : ℕ) (old new : Session) : Type 0 where
 abbrev IsCaller : Session → Type 0
 IsCaller s = (at : CallerAt) × (s ≡ CallsWith at)
 
-call_goes : (span : Span) → EachGoes IsCaller (CallsOn span) span
+call_goes : (span : Span) → EachGoes IsCaller (CallsOn span) (OfHonest span)
 call_goes span version old new (CallerRests before now turned was is turn did) found own stands kind = by turned turn did found
   where
     again : ((n : ℕ) (to : CallerAt) → CallRests span.first span.last n now to → CallRests span.first span.last (suc n) before to) → Goes IsCaller (CallsOn span) old new
@@ -178,7 +183,7 @@ call_goes span version old new (CallerRests before now turned was is turn did) f
       more = λ n then rest. record { from = before; to = rest.to; was = was; is = rest.is; rests = more n rest.to (subst (λ (at : CallerAt). CallRests span.first span.last n at rest.to) (let e : CallsWith rest.from ≡ CallsWith now = sym rest.was ∙ is in cc) rest.rests) };
     }
 
-    by : (turned : Turned) (turn : CallerTurns turned before now) → turned ≢ Moved → CallFound span turned before now turn → Goes IsCaller (CallsOn span) old new
+    by : (turned : Turned) (turn : CallerTurns turned before now) → turned ≢ Moved → CallFound (OfHonest span) turned before now turn → Goes IsCaller (CallsOn span) old new
     by Moved turn did found = absurd (did refl)
     by Quiet turn did found = again (λ n to rest. QuietTurn n version before now to own (subst (SessionStands version) was stands) turn found rest)
     by Passed turn did found = again (λ n to rest. PassedTurn n before now to turn rest)
@@ -200,7 +205,7 @@ pub record ServesOnTo (span : Span) (n : ℕ) (old new : Session) : Type 0 where
 abbrev IsServing : Session → Type 0
 IsServing s = (at : ServingAt) × (s ≡ ServesWith at)
 
-serve_goes : (span : Span) → EachGoes IsServing (ServesOnTo span) span
+serve_goes : (span : Span) → EachGoes IsServing (ServesOnTo span) (OfHonest span)
 serve_goes span version old new (ServingRests before now turned was is turn did) found own stands kind = by turned turn did found
   where
     again : ((n : ℕ) (to : ServingAt) → ServesOn span.first span.last n now to → ServesOn span.first span.last (suc n) before to) → Goes IsServing (ServesOnTo span) old new
@@ -209,7 +214,7 @@ serve_goes span version old new (ServingRests before now turned was is turn did)
       more = λ n then rest. record { from = before; to = rest.to; was = was; is = rest.is; rests = more n rest.to (subst (λ (at : ServingAt). ServesOn span.first span.last n at rest.to) (let e : ServesWith rest.from ≡ ServesWith now = sym rest.was ∙ is in cc) rest.rests) };
     }
 
-    by : (turned : Turned) (turn : ServingTurns turned before now) → turned ≢ Moved → ServingFound span turned before now turn → Goes IsServing (ServesOnTo span) old new
+    by : (turned : Turned) (turn : ServingTurns turned before now) → turned ≢ Moved → ServingFound (OfHonest span) turned before now turn → Goes IsServing (ServesOnTo span) old new
     by Moved turn did found = absurd (did refl)
     by Quiet turn did found = again (λ n to rest. QuietServing n version before now to own (subst (SessionStands version) was stands) turn found rest)
     by Passed turn did found = again (λ n to rest. PassedServing n before now to turn rest)
@@ -222,17 +227,54 @@ no_serve : (span : Span) (s : Session) → IsServing s → ServesOnTo span 0 s s
 no_serve span s kind = record { from = kind.0; to = kind.0; was = kind.1; is = kind.1; rests = NoServing kind.0 }
 
 -- the turns of a caller's session in a stretch
-pub calls_on : (pages : RunPages) (place i many : ℕ) (first last : ℕ → Task) (turns : List TurnMade) → AreMade many first turns last → Each (IsIdle pages) turns → (a b : AgentState) → first (place + 1) ≡ Agent a → last (place + 1) ≡ Agent b → TellsSoFar a
-    → (c : CallerAt) → session_at a.sessions i ≡ CallsWith c → CallsOn (pages.session place i) (turns_of (place + 1) turns) (session_at a.sessions i) (session_at b.sessions i)
-calls_on pages place i many first last turns made idle a b was is tells c calls =
-    let ends = all_go pages IsCaller (CallsOn (pages.session place i)) place i (call_goes (pages.session place i)) (no_call (pages.session place i)) many first last turns made idle a was tells (c, calls) in
-    subst (λ (x : AgentState). CallsOn (pages.session place i) (turns_of (place + 1) turns) (session_at a.sessions i) (session_at x.sessions i)) (same_agent ends.now b (sym ends.is ∙ is)) ends.rests
+pub calls_on : (pages : RunPages) (place i many : ℕ) (first last : ℕ → Task) (turns : List TurnMade) → AreMade many first turns last → Each (IsIdle pages) turns → (span : Span) → pages.session place i ≡ OfHonest span
+    → (a b : AgentState) → first (place + 1) ≡ Agent a → last (place + 1) ≡ Agent b → TellsSoFar a → (c : CallerAt) → session_at a.sessions i ≡ CallsWith c → CallsOn span (turns_of (place + 1) turns) (session_at a.sessions i) (session_at b.sessions i)
+calls_on pages place i many first last turns made idle span page a b was is tells c calls =
+    let ends = all_go pages IsCaller (CallsOn span) place i (subst (EachGoes IsCaller (CallsOn span)) (sym page) (call_goes span)) (no_call span) many first last turns made idle a was tells (c, calls) in
+    subst (λ (x : AgentState). CallsOn span (turns_of (place + 1) turns) (session_at a.sessions i) (session_at x.sessions i)) (same_agent ends.now b (sym ends.is ∙ is)) ends.rests
 
-pub serves_on : (pages : RunPages) (place i many : ℕ) (first last : ℕ → Task) (turns : List TurnMade) → AreMade many first turns last → Each (IsIdle pages) turns → (a b : AgentState) → first (place + 1) ≡ Agent a → last (place + 1) ≡ Agent b → TellsSoFar a
-    → (s : ServingAt) → session_at a.sessions i ≡ ServesWith s → ServesOnTo (pages.session place i) (turns_of (place + 1) turns) (session_at a.sessions i) (session_at b.sessions i)
-serves_on pages place i many first last turns made idle a b was is tells s serves =
-    let ends = all_go pages IsServing (ServesOnTo (pages.session place i)) place i (serve_goes (pages.session place i)) (no_serve (pages.session place i)) many first last turns made idle a was tells (s, serves) in
-    subst (λ (x : AgentState). ServesOnTo (pages.session place i) (turns_of (place + 1) turns) (session_at a.sessions i) (session_at x.sessions i)) (same_agent ends.now b (sym ends.is ∙ is)) ends.rests
+pub serves_on : (pages : RunPages) (place i many : ℕ) (first last : ℕ → Task) (turns : List TurnMade) → AreMade many first turns last → Each (IsIdle pages) turns → (span : Span) → pages.session place i ≡ OfHonest span
+    → (a b : AgentState) → first (place + 1) ≡ Agent a → last (place + 1) ≡ Agent b → TellsSoFar a → (s : ServingAt) → session_at a.sessions i ≡ ServesWith s → ServesOnTo span (turns_of (place + 1) turns) (session_at a.sessions i) (session_at b.sessions i)
+serves_on pages place i many first last turns made idle span page a b was is tells s serves =
+    let ends = all_go pages IsServing (ServesOnTo span) place i (subst (EachGoes IsServing (ServesOnTo span)) (sym page) (serve_goes span)) (no_serve span) many first last turns made idle a was tells (s, serves) in
+    subst (λ (x : AgentState). ServesOnTo span (turns_of (place + 1) turns) (session_at a.sessions i) (session_at x.sessions i)) (same_agent ends.now b (sym ends.is ∙ is)) ends.rests
+
+-- ---- that of a session that a hostile peer had left
+
+left_goes : (who : Role) (at : ℕ → Core) → ((n : ℕ) → PeerHasLeft (at n) who) → EachGoes IsSide (RestsAlone who) (OfHostile who at)
+left_goes who at left version old new (CallerRests before now turned was is turn did) found own stands side = by turned turn did found
+  where
+    again : ((n : ℕ) (then : Session) → RestsAlone who n (CallsWith now) then → RestsAlone who (suc n) (CallsWith before) then) → Goes IsSide (RestsAlone who) old new
+    again more = record {
+      kind = subst IsSide (sym is) tt;
+      more = λ n then rest. subst (λ (s : Session). RestsAlone who (suc n) s then) (sym was) (more n then (subst (λ (s : Session). RestsAlone who n s then) is rest));
+    }
+
+    by : (turned : Turned) (turn : CallerTurns turned before now) → turned ≢ Moved → CallFound (OfHostile who at) turned before now turn → Goes IsSide (RestsAlone who) old new
+    by Moved turn did found = absurd (did refl)
+    by Quiet turn did found = again (λ n then rest. CallQuiet n (at found.0) before now then turn (left found.0) found.1 rest)
+    by Passed turn did found = again (λ n then rest. CallPassed n before now then turn rest)
+left_goes who at left version old new (ServingRests before now turned was is turn did) found own stands side = by turned turn did found
+  where
+    again : ((n : ℕ) (then : Session) → RestsAlone who n (ServesWith now) then → RestsAlone who (suc n) (ServesWith before) then) → Goes IsSide (RestsAlone who) old new
+    again more = record {
+      kind = subst IsSide (sym is) tt;
+      more = λ n then rest. subst (λ (s : Session). RestsAlone who (suc n) s then) (sym was) (more n then (subst (λ (s : Session). RestsAlone who n s then) is rest));
+    }
+
+    by : (turned : Turned) (turn : ServingTurns turned before now) → turned ≢ Moved → ServingFound (OfHostile who at) turned before now turn → Goes IsSide (RestsAlone who) old new
+    by Moved turn did found = absurd (did refl)
+    by Quiet turn did found = again (λ n then rest. ServingQuiet n (at found.0) before now then turn (left found.0) found.1 rest)
+    by Passed turn did found = again (λ n then rest. ServingPassed n before now then turn rest)
+left_goes who at left version old new (PageAwaited was is) found own stands side = absurd (subst IsSide was side)
+left_goes who at left version old new (HasNotBegun was is) found own stands side = absurd (subst IsSide was side)
+left_goes who at left version old new (HadEnded end was is) found own stands side = absurd (subst IsSide was side)
+
+-- it makes fewer than eight of them
+pub few_alone : (pages : RunPages) (place i many : ℕ) (first last : ℕ → Task) (turns : List TurnMade) → AreMade many first turns last → Each (IsIdle pages) turns → StaysAlone pages first place i → turns_of (place + 1) turns < 8
+few_alone pages place i many first last turns made idle a =
+    let ends = all_go pages IsSide (RestsAlone a.who) place i (subst (EachGoes IsSide (RestsAlone a.who)) (sym a.page) (left_goes a.who a.at a.left)) (λ s side. NoneMade s) many first last turns made idle a.old a.was a.tells a.side in
+    no_session_rests_alone_lem a.who (turns_of (place + 1) turns) (session_at a.old.sessions i) (session_at ends.now.sessions i) ends.rests
 
 -- ---- what the broker keeps of one domain
 

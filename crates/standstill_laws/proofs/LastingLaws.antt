@@ -1,5 +1,6 @@
 -- Where all that a run's tasks found in turns that did nothing is put together, the broker is done.
-use Rattle.std.proofs.Common.{◌≡◌, ℕ, true, false, List, refl, sym, ◌∙◌, subst, inr}
+use Rattle.std.proofs.Common.{◌≡◌, ◌⊎◌, ℕ, ◌+◌, Bool, true, false, List, refl, sym, ◌∙◌, subst, arith, inl, inr}
+use Rattle.call_broker.specs.Journal.{is_dropped}
 use Rattle.agent_slots.specs.Sessions.{Session, is_open, session_at}
 use Rattle.broker_task.specs.declared.outbox.Letter.{Letter}
 use Rattle.broker_task.specs.Given.{BrokerState}
@@ -7,10 +8,11 @@ use Rattle.broker_task.specs.Letters.{AreHeld}
 use Rattle.broker_task.specs.Moving.{all_held}
 use Rattle.standstill_laws.specs.Letters.{AreAtRest}
 use Rattle.standstill_laws.specs.Standstill.{IsShut as StaysShut, DomainStandsStill}
-use Rattle.standstill_laws.specs.Lasting.{SessionLasts, IsShut, AsCaller, AsServing, CallsAlone, ServesAlone, DomainLasts, RunLasts, NoRunLasts}
+use Rattle.standstill_laws.specs.Lasting.{SessionLasts, IsShut, AsCaller, AsServing, CallsAlone, ServesAlone, IsLeftAlone, DomainLasts, RunLasts, NoRunLasts}
 use Rattle.standstill_laws.proofs.MomentLaws.{moments_rest_lem}
 use Rattle.standstill_laws.proofs.PaceLaws.{no_session_rests_lem}
 use Rattle.standstill_laws.proofs.RestingLaws.{outboxes_are_empty_lem}
+use Rattle.standstill_laws.proofs.HostileLaws.{no_session_rests_alone_lem}
 use Rattle.standstill_laws.proofs.StandstillLaws.{runs_do_not_stand_still_lem}
 
 is_shut_now : (s : Session) → SessionLasts s → is_open s ≡ false
@@ -19,11 +21,12 @@ is_shut_now s (AsCaller first last c c' a a' is both) = absurd (no_session_rests
 is_shut_now s (AsServing first last c c' a a' is both) = absurd (no_session_rests_lem.both first last c c' a a' both)
 is_shut_now s (CallsAlone first last n c c' is rests long retired) = absurd (let here : true ≡ false = sym retired ∙ no_session_rests_lem.caller first last n c c' rests long in cc)
 is_shut_now s (ServesAlone first last n a a' is rests long retired) = absurd (let here : true ≡ false = sym retired ∙ no_session_rests_lem.serving first last n a a' rests long in cc)
+is_shut_now s (IsLeftAlone who n from rests long) = absurd (omega (arith, long, no_session_rests_alone_lem who n from s rests))
 
-at_rest : (was now then : BrokerState) → RunLasts was now then → AreAtRest now.lines
-at_rest was now then r place line there up =
-    let l = r.lines place line there in
-    let empty = outboxes_are_empty_lem was.lines now.lines then.lines r.stands.3 (λ p x at. (r.lines p x at).rests) place line there in
+at_rest : (honest : ℕ → Bool) (was now then : BrokerState) → RunLasts honest was now then → AreAtRest now.lines
+at_rest honest was now then r place line there up =
+    let l = r.lines place line there up in
+    let empty = outboxes_are_empty_lem was.lines now.lines then.lines r.stands.3 (λ p x at here. (r.lines p x at here).rests) place line there up in
     record {
       core = l.core;
       page = empty.1 l.core l.between;
@@ -34,15 +37,15 @@ at_rest was now then r place line there up =
       still = tt;
     }
 
-stands_still_so : (was now then : BrokerState) → (r : RunLasts was now then) → (place : ℕ) → DomainLasts was now then r.stands.0.said r.lines place → DomainStandsStill now.hub now.awaited now.journal r.stands.0.said now.lines (at_rest was now then r) place
+stands_still_so : (honest : ℕ → Bool) (was now then : BrokerState) → (r : RunLasts honest was now then) → (place : ℕ) → DomainLasts was now then r.stands.0.said r.lines place → DomainStandsStill now.hub now.awaited now.journal r.stands.0.said now.lines (at_rest honest was now then r) place
 unfolding at_rest
-stands_still_so was now then r place d =
-    let l = r.lines place d.line d.there in
+stands_still_so honest was now then r place d =
+    let l = r.lines place d.line d.there d.up in
     let a = d.agent in
     record {
       line = d.line;
       there = d.there;
-      up = l.rests.up;
+      up = d.up;
       port = d.port;
       port_is = d.port_is;
       own = d.own;
@@ -72,5 +75,10 @@ stands_still_so was now then r place d =
     }
 
 pub no_run_lasts_lem : NoRunLasts
-no_run_lasts_lem was now then r =
-    r.stands.1 (runs_do_not_stand_still_lem now.hub (λ d. true) now.awaited now.journal r.stands.0.said now.lines r.stands.0.decided r.grown r.stands.3 r.stands.2 (at_rest was now then r) (λ place less. inr (refl, stands_still_so was now then r place (r.domains place less))))
+no_run_lasts_lem honest was now then r =
+    r.stands.1 (runs_do_not_stand_still_lem now.hub honest now.awaited now.journal r.stands.0.said now.lines r.stands.0.decided r.grown r.stands.3 r.stands.2 (at_rest honest was now then r) (λ place less. by_domain place (r.domains place less)))
+  where
+    by_domain : (place : ℕ) → (is_dropped now.journal (place + 1) ≡ true) ⊎ ((honest (place + 1) ≡ true) × DomainLasts was now then r.stands.0.said r.lines place)
+        → (is_dropped now.journal (place + 1) ≡ true) ⊎ ((honest (place + 1) ≡ true) × DomainStandsStill now.hub now.awaited now.journal r.stands.0.said now.lines (at_rest honest was now then r) place)
+    by_domain place (inl dropped) = inl dropped
+    by_domain place (inr lasts) = inr (lasts.0, stands_still_so honest was now then r place lasts.1)

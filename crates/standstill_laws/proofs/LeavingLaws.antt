@@ -1,10 +1,10 @@
 -- Once the broker is done its agents end soon, if each that isn't done has its turns.
-use Rattle.std.proofs.Common.{◌≡◌, ◌≢◌, ◌⊎◌, ℕ, ◌+◌, ◌-◌, ◌*◌, ◌<◌, ◌≤◌, ◌==◌, zero, suc, true, false, List, [], ◌∷◌, ◌++◌, length, length-append, append_assoc, None, refl, sym, ap, ◌∙◌, subst, arith, inl, inr}
+use Rattle.std.proofs.Common.{◌≡◌, ◌≢◌, ◌⊎◌, ℕ, ◌+◌, ◌-◌, ◌*◌, ◌<◌, ◌≤◌, ◌==◌, zero, suc, Bool, true, false, List, [], ◌∷◌, ◌++◌, length, length-append, append_assoc, None, refl, sym, ap, ◌∙◌, subst, arith, inl, inr}
 use Rattle.std.specs.List.{AllByRecursion as Each}
 use Rattle.std.proofs.lemmas.Bool.Decides.{eqb_tells}
 use Rattle.list_laws.proofs.Each.{each_front, each_back}
 use Rattle.ring_words.specs.declared.page.Role.TheVariants.{Server}
-use Rattle.call_broker.specs.Domains.{count_of}
+use Rattle.call_broker.specs.Domains.{Domains, count_of}
 use Rattle.agent_slots.specs.Sessions.{session_at}
 use Rattle.agent_task.specs.State.{TellsSoFar}
 use Rattle.domain_task.specs.declared.task.Task.{Task}
@@ -12,12 +12,13 @@ use Rattle.domain_task.specs.Working.{DoesNothing}
 use Rattle.standstill_laws.specs.Counting.{TurnMade, AreMade, NoStretchRests}
 use Rattle.standstill_laws.specs.Idle.{RunPages}
 use Rattle.standstill_laws.specs.Stretches.{turns_of}
-use Rattle.standstill_laws.specs.Leaving.{AgentStands, NoAgentLasts, IsFairTill, LeavingIsShort, WholeRunsAreBounded}
+use Rattle.standstill_laws.specs.Leaving.{AgentStands, NoAgentLasts, IsFairTill, LeavingIsShort, IsFairRun, WholeTurnsAreBounded, WholeRunsAreBounded}
 use Rattle.standstill_laws.proofs.PaceLaws.{peer_was_there}
 use Rattle.standstill_laws.proofs.StandstillLaws.{none_opened}
 use Rattle.standstill_laws.proofs.StretchesLaws.{made_both, AgentTurn, agent_drain, agent_turn, session_shut}
 use Rattle.standstill_laws.proofs.FairLaws.{split_at, at_front, at_back, made_split, turns_append, stretches_are_short_lem}
 use Rattle.standstill_laws.proofs.AnswerLaws.{count_more}
+use Rattle.standstill_laws.proofs.CountingLaws.{turns_are_bounded_lem}
 use Rattle.standstill_laws.proofs.WorkLaws.{run_turns_are_bounded_lem}
 
 -- ---- one agent
@@ -128,12 +129,23 @@ no_stretch_in_both m n a b none none' before resting after parts long nothing =
     none' c.between s.back after (c.back ∙ sym (append_assoc c.between s.back after)) back_long (each_back did s.front s.back rests) in
     omega (arith, in_front, in_back)
 
-pub whole_runs_are_bounded_lem : WholeRunsAreBounded
-whole_runs_are_bounded_lem hub round first mid last during afterwards broker agents run honest =
-    let many = count_of hub + 1 in
-    let one = stretches_are_short_lem hub round first mid during run.made run.fair run.stands in
+whole_rests : (hub : Domains) (honest : ℕ → Bool) (round : ℕ) (first mid last : ℕ → Task) (during afterwards : List TurnMade) → IsFairRun hub honest round first mid last during afterwards → NoStretchRests (16 * round + 1) (during ++ afterwards)
+whole_rests hub honest round first mid last during afterwards run =
+    let one = stretches_are_short_lem hub honest round first mid during run.made run.fair run.stands in
     let two = leaving_is_short_lem hub round mid last afterwards run.made_after run.agents run.fair_after run.stands_after in
     let long : 8 * round + (8 * round + 1) ≡ 16 * round + 1 = omega arith in
-    let none = subst (λ (n : ℕ). NoStretchRests n (during ++ afterwards)) long (no_stretch_in_both (8 * round) (8 * round + 1) during afterwards one two) in
-    let few = run_turns_are_bounded_lem hub (16 * round + 1) first last (during ++ afterwards) broker agents (omega arith) (made_both many first mid last during afterwards run.made run.made_after) none honest in
+    subst (λ (n : ℕ). NoStretchRests n (during ++ afterwards)) long (no_stretch_in_both (8 * round) (8 * round + 1) during afterwards one two)
+
+pub whole_turns_are_bounded_lem : WholeTurnsAreBounded
+whole_turns_are_bounded_lem hub honest round first mid last during afterwards run =
+    let many = count_of hub + 1 in
+    let none = whole_rests hub honest round first mid last during afterwards run in
+    let few = turns_are_bounded_lem many (16 * round + 1) first last (during ++ afterwards) (omega arith) (made_both many first mid last during afterwards run.made run.made_after) none in
+    omega (arith, few, length-append during afterwards)
+
+pub whole_runs_are_bounded_lem : WholeRunsAreBounded
+whole_runs_are_bounded_lem hub honest round first mid last during afterwards broker agents run all_honest =
+    let none = whole_rests hub honest round first mid last during afterwards run in
+    let made = made_both (count_of hub + 1) first mid last during afterwards run.made run.made_after in
+    let few = run_turns_are_bounded_lem hub (16 * round + 1) first last (during ++ afterwards) broker agents (omega arith) made none all_honest in
     omega (arith, few, length-append during afterwards)

@@ -88,14 +88,14 @@ broker_drained first last mid rested is version letters began heard none (inl f)
 broker_drained first last mid rested is version letters began heard none (inr full) d = absurd (let long = full.1 in let short : length letters ≡ 0 = ap (λ (l : List Letter). length l) none in omega (arith, long, short))
 
 pub outboxes_are_empty_lem : OutboxesAreEmpty
-outboxes_are_empty_lem before now after holds each place line there = (none, still)
+outboxes_are_empty_lem before now after holds each place line there up = (none, still)
   where
     none : line.letters ≡ []
-    none = none_waits now holds (λ p l at up. all_are_held before after p l (each p l at)) place line there (each place line there).up
+    none = none_waits now holds (λ p l at here. all_are_held before after p l (each p l at here)) place line there up
 
-    still : (core : Core) → IsBetween (each place line there).first (each place line there).last core → IsStillPage core
+    still : (core : Core) → IsBetween (each place line there up).first (each place line there up).last core → IsStillPage core
     still core is =
-        let r = each place line there in
+        let r = each place line there up in
         record {
           lawful = is.since.moments.lawful_now;
           server_opened = server_not_shut r.first r.last core is r.server_up;

@@ -1,5 +1,5 @@
 -- A stretch of turns that did nothing tells all by which a run would be over.
-use Rattle.std.proofs.Common.{◌≡◌, ◌≢◌, ℕ, ◌+◌, ◌<◌, ◌≤◌, true, false, List, [], ◌∷◌, ◌++◌, Option, Some, None, refl, sym, ap, ◌∙◌, subst, arith}
+use Rattle.std.proofs.Common.{◌≡◌, ◌≢◌, ◌⊎◌, ℕ, ◌+◌, ◌<◌, ◌≤◌, Bool, true, false, List, [], ◌∷◌, ◌++◌, Option, Some, None, sym, ap, ◌∙◌, subst, arith, inl, inr}
 use Rattle.std.specs.Prelude.{IsSome}
 use Rattle.std.proofs.lemmas.Option.{none-some}
 use Rattle.std.specs.List.{AllZip as EachPair, AllByRecursion as Each}
@@ -13,6 +13,7 @@ use Rattle.vchan_protocol.specs.declared.call.EndState.TheVariants.{Open, Shut}
 use Rattle.vchan_rule.specs.Seated.{SeatedEnd, view}
 use Rattle.vchan_lifecycle.specs.Lifecycle.{FindsNotYet}
 use Rattle.call_broker.specs.Domains.{count_of}
+use Rattle.call_broker.specs.Journal.{is_dropped}
 use Rattle.task_pool.specs.declared.task.Turn.TheVariants.{Again}
 use Rattle.channel_session.specs.Calling.{CallerAt}
 use Rattle.channel_session.specs.Answering.{ServingAt}
@@ -37,12 +38,12 @@ use Rattle.standstill_laws.specs.Stretch.{AreMoments, HoldsControl}
 use Rattle.standstill_laws.specs.Moments.{WasSo}
 use Rattle.standstill_laws.specs.Pace.{CallRests, ServingRests, BothRest}
 use Rattle.standstill_laws.specs.Resting.{DrainBetween}
-use Rattle.standstill_laws.specs.Idle.{Span, RunPages, HeardFound, ChannelFound, NoMoreFound, SaidFound, AsksNone, AgentFound, LinesFound, IsIdle, AgentIsIdle, BrokerIsIdle}
+use Rattle.standstill_laws.specs.Idle.{Span, OfHonest, RunPages, HeardFound, ChannelFound, NoMoreFound, SaidFound, AsksNone, AgentFound, LinesFound, IsIdle, AgentIsIdle, BrokerIsIdle}
 use Rattle.standstill_laws.specs.Lasting.{IsShut as StaysShut, LineLasts, DomainLasts}
-use Rattle.standstill_laws.specs.Stretches.{turns_of, CallerStays, ServingStays, SessionStays, IsShut, AsCaller, AsServing, CallsAlone, ServesAlone, DomainStays, StretchRests, NoStretchLasts}
+use Rattle.standstill_laws.specs.Stretches.{turns_of, CallerStays, ServingStays, SessionStays, IsShut, AsCaller, AsServing, CallsAlone, ServesAlone, IsLeftAlone, IsHonestAgent, WasDropped, DomainStays, StretchRests, NoStretchLasts}
 use Rattle.standstill_laws.proofs.StretchLaws.{same_agent, same_broker, stretches_rest_lem, control_pages_rest_lem}
 use Rattle.standstill_laws.proofs.PaceLaws.{last_between, no_session_rests_lem}
-use Rattle.standstill_laws.proofs.IdleLaws.{all_nothing, last_turn, last_of_agent, last_of_broker, CallsOn, calls_on, ServesOnTo, serves_on, line_was, line_will, line_at}
+use Rattle.standstill_laws.proofs.IdleLaws.{all_nothing, last_turn, last_of_agent, last_of_broker, CallsOn, calls_on, ServesOnTo, serves_on, few_alone, line_was, line_will, line_at}
 use Rattle.standstill_laws.proofs.LastingLaws.{no_run_lasts_lem}
 
 -- ---- the last turn of an agent
@@ -108,8 +109,8 @@ pub made_both : (many : ℕ) (first mid last : ℕ → Task) (a b : List TurnMad
 made_both many first mid last [] b (NoneIsMade tasks) rest = rest
 made_both many first mid last (x ∷ a) b (OneIsMade tasks mid' made turns placed is rest) rest' = OneIsMade first last x (a ++ b) placed is (made_both many (tasks_after first x) mid last a b rest rest')
 
-whole : (pages : RunPages) (first now last : ℕ → Task) (turns : List TurnMade) (next : TurnMade) (rest : List TurnMade) → (r : StretchRests pages first now last turns next rest) → AreMade (count_of r.so.broker.hub + 1) first (turns ++ next ∷ rest) last
-whole pages first now last turns next rest r = made_both (count_of r.so.broker.hub + 1) first now last turns (next ∷ rest) r.made r.made_rest
+whole : (honest : ℕ → Bool) (pages : RunPages) (first now last : ℕ → Task) (turns : List TurnMade) (next : TurnMade) (rest : List TurnMade) → (r : StretchRests honest pages first now last turns next rest) → AreMade (count_of r.so.broker.hub + 1) first (turns ++ next ∷ rest) last
+whole honest pages first now last turns next rest r = made_both (count_of r.so.broker.hub + 1) first now last turns (next ∷ rest) r.made r.made_rest
 
 -- ---- its turns, by what they lead to
 
@@ -128,8 +129,8 @@ pub record AgentTurn (pages : RunPages) (place : ℕ) (now : AgentState) : Type 
   pub rests : AgentRests before now
   pub found : AgentFound pages place before now turns rests
 
-turn_to : (pages : RunPages) (first now last : ℕ → Task) (turns : List TurnMade) (next : TurnMade) (rest : List TurnMade) → (r : StretchRests pages first now last turns next rest) → TurnTo pages r.so.broker
-turn_to pages first now last turns next rest r =
+turn_to : (honest : ℕ → Bool) (pages : RunPages) (first now last : ℕ → Task) (turns : List TurnMade) (next : TurnMade) (rest : List TurnMade) → (r : StretchRests honest pages first now last turns next rest) → TurnTo pages r.so.broker
+turn_to honest pages first now last turns next rest r =
     let turn = last_of_broker pages (now 0) (last_turn pages (count_of r.so.broker.hub + 1) first now turns r.made (each_front (IsIdle pages) turns (next ∷ rest) r.so.idle) 0 r.broker_turned) in
     subst (λ (b : BrokerState). TurnTo pages b) (same_broker turn.now r.so.broker (sym turn.is ∙ r.so.is)) (record { before = turn.before; rests = turn.rests; found = turn.found })
 
@@ -138,8 +139,8 @@ turn_of pages broker then made (AgentIsIdle at before now turns works rests foun
 turn_of pages broker then made (BrokerIsIdle before now turns works rests found) placed was is =
     subst (λ (b : BrokerState). TurnFrom pages b then) (same_broker before broker was) (subst (λ (b : BrokerState). TurnFrom pages before b) (same_broker now then is) (record { rests = rests; found = found }))
 
-turn_from : (pages : RunPages) (first now last : ℕ → Task) (turns : List TurnMade) (next : TurnMade) (rest : List TurnMade) → (r : StretchRests pages first now last turns next rest) → TurnFrom pages r.so.broker r.so.then
-turn_from pages first now last turns next rest r = turn_of pages r.so.broker r.so.then next (each_back (IsIdle pages) turns (next ∷ rest) r.so.idle).0 r.next_place (sym (head_is (count_of r.so.broker.hub + 1) now last next rest r.made_rest) ∙ ap now r.next_place ∙ r.so.is) r.so.then_is
+turn_from : (honest : ℕ → Bool) (pages : RunPages) (first now last : ℕ → Task) (turns : List TurnMade) (next : TurnMade) (rest : List TurnMade) → (r : StretchRests honest pages first now last turns next rest) → TurnFrom pages r.so.broker r.so.then
+turn_from honest pages first now last turns next rest r = turn_of pages r.so.broker r.so.then next (each_back (IsIdle pages) turns (next ∷ rest) r.so.idle).0 r.next_place (sym (head_is (count_of r.so.broker.hub + 1) now last next rest r.made_rest) ∙ ap now r.next_place ∙ r.so.is) r.so.then_is
 
 pub agent_turn : (pages : RunPages) (many : ℕ) (first now : ℕ → Task) (turns : List TurnMade) → AreMade many first turns now → Each (IsIdle pages) turns → (place : ℕ) (task : AgentState) → 0 < turns_of (place + 1) turns → now (place + 1) ≡ Agent task → AgentTurn pages place task
 agent_turn pages many first now turns made idle place task some is =
@@ -160,21 +161,19 @@ serve_rests span n old new from to on was is =
     let two : on.to ≡ to = let e : ServesWith on.to ≡ ServesWith to = sym on.is ∙ is in cc in
     subst (λ (at : ServingAt). ServingRests span.first span.last n from at) two (subst (λ (at : ServingAt). ServingRests span.first span.last n at on.to) one on.rests)
 
-calls_so : (pages : RunPages) (many : ℕ) (first now : ℕ → Task) (turns : List TurnMade) → AreMade many first turns now → Each (IsIdle pages) turns → (span : Span) (place i : ℕ) → pages.session place i ≡ span → (c : CallerStays span first now place i)
+calls_so : (pages : RunPages) (many : ℕ) (first now : ℕ → Task) (turns : List TurnMade) → AreMade many first turns now → Each (IsIdle pages) turns → (span : Span) (place i : ℕ) → pages.session place i ≡ OfHonest span → (c : CallerStays span first now place i)
     → CallRests span.first span.last (turns_of (place + 1) turns) c.from c.to
 calls_so pages many first now turns made idle span place i same c =
-    let on = calls_on pages place i many first now turns made idle c.old c.new c.was c.is c.tells c.from c.was_so in
     call_rests span (turns_of (place + 1) turns) (session_at c.old.sessions i) (session_at c.new.sessions i) c.from c.to
-    (subst (λ (p : Span). CallsOn p (turns_of (place + 1) turns) (session_at c.old.sessions i) (session_at c.new.sessions i)) same on) c.was_so c.is_so
+    (calls_on pages place i many first now turns made idle span same c.old c.new c.was c.is c.tells c.from c.was_so) c.was_so c.is_so
 
-serves_so : (pages : RunPages) (many : ℕ) (first now : ℕ → Task) (turns : List TurnMade) → AreMade many first turns now → Each (IsIdle pages) turns → (span : Span) (place i : ℕ) → pages.session place i ≡ span → (s : ServingStays span first now place i)
+serves_so : (pages : RunPages) (many : ℕ) (first now : ℕ → Task) (turns : List TurnMade) → AreMade many first turns now → Each (IsIdle pages) turns → (span : Span) (place i : ℕ) → pages.session place i ≡ OfHonest span → (s : ServingStays span first now place i)
     → ServingRests span.first span.last (turns_of (place + 1) turns) s.from s.to
 serves_so pages many first now turns made idle span place i same s =
-    let on = serves_on pages place i many first now turns made idle s.old s.new s.was s.is s.tells s.from s.was_so in
     serve_rests span (turns_of (place + 1) turns) (session_at s.old.sessions i) (session_at s.new.sessions i) s.from s.to
-    (subst (λ (p : Span). ServesOnTo p (turns_of (place + 1) turns) (session_at s.old.sessions i) (session_at s.new.sessions i)) same on) s.was_so s.is_so
+    (serves_on pages place i many first now turns made idle span same s.old s.new s.was s.is s.tells s.from s.was_so) s.was_so s.is_so
 
-both_so : (pages : RunPages) (many : ℕ) (first now : ℕ → Task) (turns : List TurnMade) → AreMade many first turns now → Each (IsIdle pages) turns → (span : Span) (place i peer j : ℕ) → pages.session place i ≡ span → pages.session peer j ≡ span
+both_so : (pages : RunPages) (many : ℕ) (first now : ℕ → Task) (turns : List TurnMade) → AreMade many first turns now → Each (IsIdle pages) turns → (span : Span) (place i peer j : ℕ) → pages.session place i ≡ OfHonest span → pages.session peer j ≡ OfHonest span
     → 8 ≤ turns_of (place + 1) turns → 8 ≤ turns_of (peer + 1) turns → AreMoments span.first span.last → (c : CallerStays span first now place i) (s : ServingStays span first now peer j) → BothRest span.first span.last c.from c.to s.from s.to
 both_so pages many first now turns made idle span place i peer j mine yours long long' moments c s = record {
   moments = moments;
@@ -194,24 +193,25 @@ both_so pages many first now turns made idle span place i peer j mine yours long
 pub session_shut : (pages : RunPages) (many : ℕ) (first now : ℕ → Task) (turns : List TurnMade) → AreMade many first turns now → Each (IsIdle pages) turns → (IsPeer : ℕ → Type 0) → ((peer : ℕ) → IsPeer peer → 8 ≤ turns_of (peer + 1) turns) → (place i : ℕ) (s : Session)
     → 8 ≤ turns_of (place + 1) turns → SessionStays pages first now IsPeer place i s → is_open s ≡ false
 session_shut pages many first now turns made idle IsPeer peers place i s long (IsShut shut) = shut
-session_shut pages many first now turns made idle IsPeer peers place i s long (AsCaller peer j below same moments a b) =
-    absurd (no_session_rests_lem.both (pages.session place i).first (pages.session place i).last a.from a.to b.from b.to (both_so pages many first now turns made idle (pages.session place i) place i peer j refl same long (peers peer below) moments a b))
-session_shut pages many first now turns made idle IsPeer peers place i s long (AsServing peer j below same moments a b) =
-    absurd (no_session_rests_lem.both (pages.session place i).first (pages.session place i).last a.from a.to b.from b.to (both_so pages many first now turns made idle (pages.session place i) peer j place i same refl (peers peer below) long moments a b))
-session_shut pages many first now turns made idle IsPeer peers place i s long (CallsAlone a retired) =
-    let rests = calls_so pages many first now turns made idle (pages.session place i) place i refl a in
-    absurd (let bad : true ≡ false = sym retired ∙ no_session_rests_lem.caller (pages.session place i).first (pages.session place i).last (turns_of (place + 1) turns) a.from a.to rests long in cc)
-session_shut pages many first now turns made idle IsPeer peers place i s long (ServesAlone b retired) =
-    let rests = serves_so pages many first now turns made idle (pages.session place i) place i refl b in
-    absurd (let bad : true ≡ false = sym retired ∙ no_session_rests_lem.serving (pages.session place i).first (pages.session place i).last (turns_of (place + 1) turns) b.from b.to rests long in cc)
+session_shut pages many first now turns made idle IsPeer peers place i s long (AsCaller span peer j below mine yours moments a b) =
+    absurd (no_session_rests_lem.both span.first span.last a.from a.to b.from b.to (both_so pages many first now turns made idle span place i peer j mine yours long (peers peer below) moments a b))
+session_shut pages many first now turns made idle IsPeer peers place i s long (AsServing span peer j below mine yours moments a b) =
+    absurd (no_session_rests_lem.both span.first span.last a.from a.to b.from b.to (both_so pages many first now turns made idle span peer j place i yours mine (peers peer below) long moments a b))
+session_shut pages many first now turns made idle IsPeer peers place i s long (CallsAlone span mine a retired) =
+    let rests = calls_so pages many first now turns made idle span place i mine a in
+    absurd (let bad : true ≡ false = sym retired ∙ no_session_rests_lem.caller span.first span.last (turns_of (place + 1) turns) a.from a.to rests long in cc)
+session_shut pages many first now turns made idle IsPeer peers place i s long (ServesAlone span mine b retired) =
+    let rests = serves_so pages many first now turns made idle span place i mine b in
+    absurd (let bad : true ≡ false = sym retired ∙ no_session_rests_lem.serving span.first span.last (turns_of (place + 1) turns) b.from b.to rests long in cc)
+session_shut pages many first now turns made idle IsPeer peers place i s long (IsLeftAlone a) = absurd (omega (arith, long, few_alone pages place i many first now turns made idle a))
 
 -- ---- a domain
 
-control_rested : (pages : RunPages) (first now last : ℕ → Task) (turns : List TurnMade) (next : TurnMade) (rest : List TurnMade) → (r : StretchRests pages first now last turns next rest) → (place : ℕ) (line : BrokerLine) → DomainStays pages first now last r.so.broker r.so.then r.so.stands.0.said place line
+control_rested : (honest : ℕ → Bool) (pages : RunPages) (first now last : ℕ → Task) (turns : List TurnMade) (next : TurnMade) (rest : List TurnMade) → (r : StretchRests honest pages first now last turns next rest) → (place : ℕ) (line : BrokerLine) → DomainStays honest pages first now last r.so.broker r.so.then r.so.stands.0.said place line
     → PageRested (pages.control place).first (pages.control place).last
-control_rested pages first now last turns next rest r place line d =
+control_rested honest pages first now last turns next rest r place line d =
     let all = turns ++ next ∷ rest in
-    let rests = stretches_rest_lem (count_of r.so.broker.hub + 1) first last all (whole pages first now last turns next rest r) (all_nothing pages all r.so.idle) in
+    let rests = stretches_rest_lem (count_of r.so.broker.hub + 1) first last all (whole honest pages first now last turns next rest r) (all_nothing pages all r.so.idle) in
     control_pages_rest_lem (pages.control place).first (pages.control place).last (first (place + 1)) (last (place + 1)) (first 0) (last 0) place d.moments (rests (place + 1)) (rests 0) d.begins_open d.agent_first d.broker_first d.agent_last d.broker_last
 
 -- the agent's end of a control page is open
@@ -223,30 +223,47 @@ agent_open (Hostile t) side h = absurd h
 not_shut : (state : EndState) → state ≡ Open → state ≢ Shut
 not_shut state up is = let bad : Open ≡ Shut = sym up ∙ is in cc
 
-within : (pages : RunPages) (first now last : ℕ → Task) (turns : List TurnMade) (next : TurnMade) (rest : List TurnMade) → (r : StretchRests pages first now last turns next rest) → (place : ℕ) (line : BrokerLine) → IsAt r.so.broker.lines place line → place < count_of r.so.broker.hub
-within pages first now last turns next rest r place line there = omega (arith, there.within, r.so.lines)
+within : (honest : ℕ → Bool) (pages : RunPages) (first now last : ℕ → Task) (turns : List TurnMade) (next : TurnMade) (rest : List TurnMade) → (r : StretchRests honest pages first now last turns next rest) → (place : ℕ) (line : BrokerLine) → IsAt r.so.broker.lines place line → place < count_of r.so.broker.hub
+within honest pages first now last turns next rest r place line there = omega (arith, there.within, r.so.lines)
 
-line_lasts : (pages : RunPages) (first now last : ℕ → Task) (turns : List TurnMade) (next : TurnMade) (rest : List TurnMade) → (r : StretchRests pages first now last turns next rest) → (place : ℕ) (line : BrokerLine) → IsAt r.so.broker.lines place line
-    → LineLasts (turn_to pages first now last turns next rest r).before.lines r.so.then.lines place line
-line_lasts pages first now last turns next rest r place line there =
-    let d = r.so.domains place line there in
-    let to = turn_to pages first now last turns next rest r in
-    let from = turn_from pages first now last turns next rest r in
+other_of : {A B : Type 0} → ¬ A → A ⊎ B → B
+other_of none (inl a) = absurd (none a)
+other_of none (inr b) = b
+
+-- a domain was dropped, or what the broker keeps of it isn't shut
+abbrev Stays : (honest : ℕ → Bool) (pages : RunPages) (first now last : ℕ → Task) (turns : List TurnMade) (next : TurnMade) (rest : List TurnMade) → (r : StretchRests honest pages first now last turns next rest) → (place : ℕ) (line : BrokerLine) → Type 0
+Stays honest pages first now last turns next rest r place line = WasDropped r.so.broker place line ⊎ ((honest (place + 1) ≡ true) × DomainStays honest pages first now last r.so.broker r.so.then r.so.stands.0.said place line)
+
+undropped : (honest : ℕ → Bool) (pages : RunPages) (first now last : ℕ → Task) (turns : List TurnMade) (next : TurnMade) (rest : List TurnMade) → (r : StretchRests honest pages first now last turns next rest) → (place : ℕ) (line : BrokerLine)
+    → Stays honest pages first now last turns next rest r place line → is_shut (view line.end).state ≡ false → (honest (place + 1) ≡ true) × DomainStays honest pages first now last r.so.broker r.so.then r.so.stands.0.said place line
+undropped honest pages first now last turns next rest r place line so up = other_of (λ dropped. let bad : true ≡ false = sym dropped.shut ∙ up in cc) so
+
+dropped_or_up : (honest : ℕ → Bool) (pages : RunPages) (first now last : ℕ → Task) (turns : List TurnMade) (next : TurnMade) (rest : List TurnMade) → (r : StretchRests honest pages first now last turns next rest) → (place : ℕ) (line : BrokerLine)
+    → Stays honest pages first now last turns next rest r place line → (is_dropped r.so.broker.journal (place + 1) ≡ true) ⊎ (is_shut (view line.end).state ≡ false)
+dropped_or_up honest pages first now last turns next rest r place line (inl dropped) = inl dropped.told
+dropped_or_up honest pages first now last turns next rest r place line (inr stays) = inr stays.1.up
+
+line_lasts : (honest : ℕ → Bool) (pages : RunPages) (first now last : ℕ → Task) (turns : List TurnMade) (next : TurnMade) (rest : List TurnMade) → (r : StretchRests honest pages first now last turns next rest) → (place : ℕ) (line : BrokerLine) → IsAt r.so.broker.lines place line → is_shut (view line.end).state ≡ false
+    → LineLasts (turn_to honest pages first now last turns next rest r).before.lines r.so.then.lines place line
+line_lasts honest pages first now last turns next rest r place line there up =
+    let both = undropped honest pages first now last turns next rest r place line (r.so.domains place line there) up in
+    let d = both.1 in
+    let to = turn_to honest pages first now last turns next rest r in
+    let from = turn_from honest pages first now last turns next rest r in
     let was = line_was pages.control to.before.lines r.so.broker.lines to.rests to.found place line there in
     let will = line_will pages.control r.so.broker.lines r.so.then.lines from.rests from.found place line there in
-    let rested = control_rested pages first now last turns next rest r place line d in
-    let turned = agent_turn pages (count_of r.so.broker.hub + 1) first now turns r.made (each_front (IsIdle pages) turns (next ∷ rest) r.so.idle) place d.task (r.agents_turned place (within pages first now last turns next rest r place line there)) d.task_is in
+    let rested = control_rested honest pages first now last turns next rest r place line d in
+    let turned = agent_turn pages (count_of r.so.broker.hub + 1) first now turns r.made (each_front (IsIdle pages) turns (next ∷ rest) r.so.idle) place d.task (r.agents_turned place (within honest pages first now last turns next rest r place line there, both.0)) d.task_is in
     let drain = agent_drain (pages.control place) turned.before d.task turned.rests.channel turned.found.heard d.over in
-    let new_up : is_shut (view will.new.end).state ≡ false = will.rests.shut ∙ d.up in
+    let new_up : is_shut (view will.new.end).state ≡ false = will.rests.shut ∙ up in
     record {
       rests = record {
         old = was.old;
         was = was.there;
         new = will.new;
         is = will.there;
-        up = d.up;
         greets = d.greets will.new will.there;
-        turn = was.rests.quiet d.up;
+        turn = was.rests.quiet up;
         next = will.rests.quiet new_up;
         first = (pages.control place).first;
         last = (pages.control place).last;
@@ -254,7 +271,7 @@ line_lasts pages first now last turns next rest r place line there =
         rested = rested;
         server_up = not_shut (pages.control place).last.server.state (agent_open (last (place + 1)) (pages.control place).last.server d.agent_last);
         client_up = not_shut (pages.control place).last.client.state ((rested.ends Client).state ∙ d.begins_open);
-        turn_found = was.found d.up;
+        turn_found = was.found up;
         next_found = will.found new_up;
         began = drain.began;
         heard = drain.heard;
@@ -267,46 +284,62 @@ line_lasts pages first now last turns next rest r place line there =
       version = d.version;
     }
 
-domain_lasts : (pages : RunPages) (first now last : ℕ → Task) (turns : List TurnMade) (next : TurnMade) (rest : List TurnMade) → (r : StretchRests pages first now last turns next rest) → (place : ℕ) → place < count_of r.so.broker.hub
-    → DomainLasts (turn_to pages first now last turns next rest r).before r.so.broker r.so.then r.so.stands.0.said (line_lasts pages first now last turns next rest r) place
+domain_lasts : (honest : ℕ → Bool) (pages : RunPages) (first now last : ℕ → Task) (turns : List TurnMade) (next : TurnMade) (rest : List TurnMade) → (r : StretchRests honest pages first now last turns next rest) → (place : ℕ) → (line : BrokerLine) (there : IsAt r.so.broker.lines place line)
+    → is_shut (view line.end).state ≡ false → (honest (place + 1) ≡ true) × DomainLasts (turn_to honest pages first now last turns next rest r).before r.so.broker r.so.then r.so.stands.0.said (line_lasts honest pages first now last turns next rest r) place
 unfolding line_lasts
-domain_lasts pages first now last turns next rest r place less =
-    let l = line_at r.so.broker.lines place (omega (arith, less, r.so.lines)) in
-    let d = r.so.domains place l.0 l.1 in
-    let turned = agent_turn pages (count_of r.so.broker.hub + 1) first now turns r.made (each_front (IsIdle pages) turns (next ∷ rest) r.so.idle) place d.task (r.agents_turned place less) d.task_is in
-    let stops = agent_stops (pages.control place) d.task.pages turned.before.channel d.task.channel (turned.turns.1.2 d.over) (turned.found.said d.over) turned.found.asks_none d.channel d.channel_is d.agent_greeted d.agent_version in
-    record {
-      line = l.0;
-      there = l.1;
-      port = d.port;
-      port_is = d.port_is;
-      own = d.own;
-      attended = d.attended;
-      heard = d.heard;
-      talks = d.talks;
-      task = d.task;
-      domain = d.domain;
-      count = d.count;
-      agent = record {
-        tells = d.tells;
-        channel = d.channel;
-        channel_is = d.channel_is;
-        up = d.over;
-        end = d.end;
-        differ = d.differ;
-        given = d.given;
-        order = d.order;
-        before = stops.before;
-        calls = asked_at_most d.task.pages;
-        some = d.may_ask;
-        stops = stops.stops;
-        found = stops.found;
-        none_asked = stops.none_asked;
-        sessions = λ i.
-            StaysShut (session_shut pages (count_of r.so.broker.hub + 1) first last (turns ++ next ∷ rest) (whole pages first now last turns next rest r) r.so.idle (λ peer. peer < count_of r.so.broker.hub) r.agents_turned_on place i (session_at d.task.sessions i) (r.agents_turned_on place less) (d.sessions i));
-      };
-    }
+domain_lasts honest pages first now last turns next rest r place line there up =
+    let both = undropped honest pages first now last turns next rest r place line (r.so.domains place line there) up in
+    let d = both.1 in
+    let mine : IsHonestAgent r.so.broker.hub honest place = (within honest pages first now last turns next rest r place line there, both.0) in
+    let turned = agent_turn pages (count_of r.so.broker.hub + 1) first now turns r.made (each_front (IsIdle pages) turns (next ∷ rest) r.so.idle) place d.task (r.agents_turned place mine) d.task_is in
+    let stops = agent_stops (pages.control place) d.task.pages turned.before.channel d.task.channel (turned.turns.1.2 d.over) (turned.found.said d.over) turned.found.asks_none d.channel d.channel_is d.agent_greeted d.agent_version in (
+      both.0,
+      record {
+        line = line;
+        there = there;
+        up = up;
+        port = d.port;
+        port_is = d.port_is;
+        own = d.own;
+        attended = d.attended;
+        heard = d.heard;
+        talks = d.talks;
+        task = d.task;
+        domain = d.domain;
+        count = d.count;
+        agent = record {
+          tells = d.tells;
+          channel = d.channel;
+          channel_is = d.channel_is;
+          up = d.over;
+          end = d.end;
+          differ = d.differ;
+          given = d.given;
+          order = d.order;
+          before = stops.before;
+          calls = asked_at_most d.task.pages;
+          some = d.may_ask;
+          stops = stops.stops;
+          found = stops.found;
+          none_asked = stops.none_asked;
+          sessions = λ i.
+              StaysShut (session_shut pages (count_of r.so.broker.hub + 1) first last (turns ++ next ∷ rest) (whole honest pages first now last turns next rest r) r.so.idle (IsHonestAgent r.so.broker.hub honest) r.agents_turned_on place i (session_at d.task.sessions i) (r.agents_turned_on place mine) (d.sessions i));
+        };
+      },
+    )
 
 pub no_stretch_lasts_lem : NoStretchLasts
-no_stretch_lasts_lem pages first now last turns next rest r =
-    no_run_lasts_lem (turn_to pages first now last turns next rest r).before r.so.broker r.so.then (record { stands = r.so.stands; grown = r.so.grown; lines = line_lasts pages first now last turns next rest r; domains = domain_lasts pages first now last turns next rest r })
+no_stretch_lasts_lem honest pages first now last turns next rest r =
+    no_run_lasts_lem honest (turn_to honest pages first now last turns next rest r).before r.so.broker r.so.then (record { stands = r.so.stands; grown = r.so.grown; lines = line_lasts honest pages first now last turns next rest r; domains = by_place })
+  where
+    by_place : (place : ℕ) → place < count_of r.so.broker.hub
+        → (is_dropped r.so.broker.journal (place + 1) ≡ true) ⊎ ((honest (place + 1) ≡ true) × DomainLasts (turn_to honest pages first now last turns next rest r).before r.so.broker r.so.then r.so.stands.0.said (line_lasts honest pages first now last turns next rest r) place)
+    by_place place less = by_line (dropped_or_up honest pages first now last turns next rest r place l.0 (r.so.domains place l.0 l.1))
+      where
+        l : (line : BrokerLine) × IsAt r.so.broker.lines place line
+        l = line_at r.so.broker.lines place (omega (arith, less, r.so.lines))
+
+        by_line : (is_dropped r.so.broker.journal (place + 1) ≡ true) ⊎ (is_shut (view l.0.end).state ≡ false)
+            → (is_dropped r.so.broker.journal (place + 1) ≡ true) ⊎ ((honest (place + 1) ≡ true) × DomainLasts (turn_to honest pages first now last turns next rest r).before r.so.broker r.so.then r.so.stands.0.said (line_lasts honest pages first now last turns next rest r) place)
+        by_line (inl dropped) = inl dropped
+        by_line (inr up) = inr (domain_lasts honest pages first now last turns next rest r place l.0 l.1 up)

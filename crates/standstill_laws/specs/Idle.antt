@@ -2,6 +2,7 @@
 -- Source: this project's own.
 use Rattle.std.specs.Prelude.{◌≡◌, ℕ, ◌+◌, false, List, ◌∷◌, Option, Some, None}
 use Rattle.std.specs.List.{AllZip as EachPair}
+use Rattle.ring_words.specs.declared.page.Role.{Role}
 use Rattle.ring_words.specs.declared.page.Role.TheVariants.{Server, Client}
 use Rattle.vchan_protocol.specs.Answering.Loads.{loads_of}
 use Rattle.vchan_protocol.specs.History.Core.{Core, standing_of}
@@ -35,30 +36,37 @@ pub record Span : Type 0 where
   pub first : Core
   pub last : Core
 
+-- the page of a session: two moments of one between honest domains; or one with a hostile domain, of which the other has this end, and its moments
+pub data SessionPage : Type 0 where
+  OfHonest : Span → SessionPage
+  OfHostile : (who : Role) (at : ℕ → Core) → SessionPage
+
 -- those of a run: the control page of the domain behind each place, and the page of each of its agent's sessions
 pub record RunPages : Type 0 where
   pub control : ℕ → Span
-  pub session : ℕ → ℕ → Span
+  pub session : ℕ → ℕ → SessionPage
 
 -- ---- an agent
 
--- a caller is on the server's end
-abbrev pub CallFound : Span → (turned : Turned) → (before now : CallerAt) → CallerTurns turned before now → Type 0
-CallFound span Moved before now turn = Unit {0}
-CallFound span Quiet before now turn = IsQuietBetween span.first span.last Server _ _ _ _ _ turn.2
-CallFound span Passed before now turn = Unit {0}
+-- a caller is on the server's end; with a hostile domain only the gone word that the drain loaded need be that of the page
+abbrev pub CallFound : SessionPage → (turned : Turned) → (before now : CallerAt) → CallerTurns turned before now → Type 0
+CallFound page Moved before now turn = Unit {0}
+CallFound (OfHonest span) Quiet before now turn = IsQuietBetween span.first span.last Server _ _ _ _ _ turn.2
+CallFound (OfHostile who at) Quiet before now turn = (n : ℕ) × IsGoneStill (at n) who (loads_of (standing_of turn.2.found.side) turn.2.left.side.trail)
+CallFound page Passed before now turn = Unit {0}
 
-abbrev pub ServingFound : Span → (turned : Turned) → (before now : ServingAt) → ServingTurns turned before now → Type 0
-ServingFound span Moved before now turn = Unit {0}
-ServingFound span Quiet before now turn = IsQuietBetween span.first span.last Client _ _ _ _ _ turn.2
-ServingFound span Passed before now turn = Unit {0}
+abbrev pub ServingFound : SessionPage → (turned : Turned) → (before now : ServingAt) → ServingTurns turned before now → Type 0
+ServingFound page Moved before now turn = Unit {0}
+ServingFound (OfHonest span) Quiet before now turn = IsQuietBetween span.first span.last Client _ _ _ _ _ turn.2
+ServingFound (OfHostile who at) Quiet before now turn = (n : ℕ) × IsGoneStill (at n) who (loads_of (standing_of turn.2.found.side) turn.2.left.side.trail)
+ServingFound page Passed before now turn = Unit {0}
 
-abbrev pub SessionFound : Span → (old new : Session) → SessionRests old new → Type 0
-SessionFound span old new (CallerRests before now turned was is turn did) = CallFound span turned before now turn
-SessionFound span old new (ServingRests before now turned was is turn did) = ServingFound span turned before now turn
-SessionFound span old new (PageAwaited was is) = Unit {0}
-SessionFound span old new (HasNotBegun was is) = Unit {0}
-SessionFound span old new (HadEnded end was is) = Unit {0}
+abbrev pub SessionFound : SessionPage → (old new : Session) → SessionRests old new → Type 0
+SessionFound page old new (CallerRests before now turned was is turn did) = CallFound page turned before now turn
+SessionFound page old new (ServingRests before now turned was is turn did) = ServingFound page turned before now turn
+SessionFound page old new (PageAwaited was is) = Unit {0}
+SessionFound page old new (HasNotBegun was is) = Unit {0}
+SessionFound page old new (HadEnded end was is) = Unit {0}
 
 -- its drain, while its channel is up, and whether the broker is there
 abbrev pub HeardFound : Span → (old new : Option AgentControl) → IsStill old new → Type 0

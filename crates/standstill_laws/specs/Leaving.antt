@@ -1,6 +1,6 @@
 -- How many turns in a row of the agents may all do nothing once the broker is done, and how many turns a whole run makes.
 -- Source: this project's own.
-use Rattle.std.specs.Prelude.{◌≡◌, ℕ, ◌+◌, ◌*◌, ◌<◌, ◌≤◌, true, List, ◌∷◌, ◌++◌, length}
+use Rattle.std.specs.Prelude.{◌≡◌, ℕ, Bool, ◌+◌, ◌*◌, ◌<◌, ◌≤◌, true, List, ◌∷◌, ◌++◌, length}
 use Rattle.std.specs.List.{AllByRecursion as Each}
 use Rattle.call_broker.specs.Domains.{Domains, count_of}
 use Rattle.agent_slots.specs.Sessions.{session_at}
@@ -9,14 +9,14 @@ use Rattle.broker_task.specs.Given.{BrokerState}
 use Rattle.domain_task.specs.declared.task.Task.{Task}
 use Rattle.domain_task.specs.declared.task.Task.TheVariants.{Agent}
 use Rattle.domain_task.specs.Working.{DoesNothing}
-use Rattle.standstill_laws.specs.Counting.{TurnMade, AreMade, NoStretchRests}
+use Rattle.standstill_laws.specs.Counting.{TurnMade, AreMade, work_of_all, NoStretchRests}
 use Rattle.standstill_laws.specs.Work.{IsHonestRun, run_work}
 use Rattle.standstill_laws.specs.Idle.{RunPages, IsIdle}
 use Rattle.standstill_laws.specs.Stretches.{turns_of, SessionStays, IsFair, StandThroughout}
 
 -- ---- one agent
 
--- so stands an agent in a stretch of turns that all did nothing: the broker's end of its control page was retired before; and across from each of its open sessions an agent made eight of the turns too, or lies an end that was retired before
+-- so stands an agent in a stretch of turns that all did nothing: the broker's end of its control page was retired before; and across from each of its open sessions an agent made eight of the turns too, or lies an end that was retired before, or a hostile domain had left
 pub record AgentStands (pages : RunPages) (first now : ℕ → Task) (turns : List TurnMade) (place : ℕ) : Type 0 where
   pub idle : Each (IsIdle pages) turns
   pub retired : (pages.control place).first.client.retired ≡ true
@@ -46,16 +46,22 @@ LeavingIsShort = (hub : Domains) (round : ℕ) (first last : ℕ → Task) (turn
 
 -- ---- a whole run
 
--- the turns of a run between honest domains after which a task goes on: those while the broker goes on, and those of its agents once it is done
-pub record IsFairRun (hub : Domains) (round : ℕ) (first mid last : ℕ → Task) (during afterwards : List TurnMade) : Type 0 where
+-- the turns of a run after which a task goes on: those while the broker goes on, and those of the other tasks once it is done
+pub record IsFairRun (hub : Domains) (honest : ℕ → Bool) (round : ℕ) (first mid last : ℕ → Task) (during afterwards : List TurnMade) : Type 0 where
   pub made : AreMade (count_of hub + 1) first during mid
   pub made_after : AreMade (count_of hub + 1) mid afterwards last
-  pub fair : IsFair (count_of hub + 1) round during
-  pub stands : StandThroughout hub during
+  pub fair : IsFair hub honest round during
+  pub stands : StandThroughout hub honest during
   pub agents : Each (λ made. 0 < made.place) afterwards
   pub fair_after : IsFairTill round afterwards
   pub stands_after : AgentsStandThroughout hub afterwards
 
+-- they are fewer than this times one more than what all tasks have done in the end
+abbrev pub WholeTurnsAreBounded : Type 0
+WholeTurnsAreBounded = (hub : Domains) (honest : ℕ → Bool) (round : ℕ) (first mid last : ℕ → Task) (during afterwards : List TurnMade) → IsFairRun hub honest round first mid last during afterwards
+    → length during + length afterwards < (work_of_all (count_of hub + 1) last + 1) * (16 * round + 1)
+
+-- and of a run between honest domains than this times one more than what all its tasks have done at most
 abbrev pub WholeRunsAreBounded : Type 0
-WholeRunsAreBounded = (hub : Domains) (round : ℕ) (first mid last : ℕ → Task) (during afterwards : List TurnMade) (broker : BrokerState) (agents : ℕ → AgentState) → IsFairRun hub round first mid last during afterwards
+WholeRunsAreBounded = (hub : Domains) (honest : ℕ → Bool) (round : ℕ) (first mid last : ℕ → Task) (during afterwards : List TurnMade) (broker : BrokerState) (agents : ℕ → AgentState) → IsFairRun hub honest round first mid last during afterwards
     → IsHonestRun hub last broker agents → length during + length afterwards < (run_work hub agents + 1) * (16 * round + 1)

@@ -44,8 +44,7 @@ pub record LineRests (before after : List BrokerLine) (place : ℕ) (line : Brok
   pub was : IsAt before place old
   pub new : BrokerLine
   pub is : IsAt after place new
-  -- it isn't dropped, and has greeted
-  pub up : is_shut (view line.end).state ≡ false
+  -- it has greeted
   pub greets : IsSome new.version
   pub turn : IsQuiet old line
   pub next : IsQuiet line new
@@ -64,7 +63,7 @@ pub record LineRests (before after : List BrokerLine) (place : ℕ) (line : Brok
   pub not_yet : FindsNotYet began heard
   pub agent_found : DrainBetween first last Server began heard not_yet
 
--- no letter waits for any domain between the two turns, and each control page stands still, if a letter that is held is so for an Exec that waits (`HoldsForExecs`)
+-- no letter waits between the two turns for any domain that wasn't dropped, and each of their control pages stands still, if a letter that is held is so for an Exec that waits (`HoldsForExecs`)
 abbrev pub OutboxesAreEmpty : Type 0
-OutboxesAreEmpty = (before now after : List BrokerLine) → HoldsForExecs now → (each : (place : ℕ) (line : BrokerLine) → IsAt now place line → LineRests before after place line)
-    → (place : ℕ) (line : BrokerLine) (there : IsAt now place line) → (line.letters ≡ []) × ((core : Core) → IsBetween (each place line there).first (each place line there).last core → IsStillPage core)
+OutboxesAreEmpty = (before now after : List BrokerLine) → HoldsForExecs now → (each : (place : ℕ) (line : BrokerLine) → IsAt now place line → is_shut (view line.end).state ≡ false → LineRests before after place line)
+    → (place : ℕ) (line : BrokerLine) (there : IsAt now place line) (up : is_shut (view line.end).state ≡ false) → (line.letters ≡ []) × ((core : Core) → IsBetween (each place line there up).first (each place line there up).last core → IsStillPage core)

@@ -1,14 +1,16 @@
--- How many turns in a row of a run between honest domains may all do nothing while its broker goes on.
+-- How many turns in a row of a run may all do nothing while its broker goes on, with hostile domains that were dropped or without.
 -- Source: this project's own.
-use Rattle.std.specs.Prelude.{◌≡◌, ℕ, ◌+◌, ◌*◌, ◌<◌, ◌≤◌, ◌==◌, true, false, List, ◌∷◌, ◌++◌, length, map, Some, None, IsSome}
+use Rattle.std.specs.Prelude.{◌≡◌, ◌⊎◌, ℕ, Bool, ◌+◌, ◌*◌, ◌<◌, ◌≤◌, ◌==◌, true, false, List, ◌∷◌, ◌++◌, length, map, Some, None, IsSome}
 use Rattle.std.specs.List.{count_by, AllByRecursion as Each}
 use Rattle.list_laws.specs.Lists.{AreDifferent}
+use Rattle.ring_words.specs.declared.page.Role.{Role}
 use Rattle.ring_words.specs.declared.page.Role.TheVariants.{Client}
 use Rattle.vchan_protocol.specs.declared.call.EndState.TheVariants.{Open}
 use Rattle.vchan_protocol.specs.History.Core.{Core}
 use Rattle.vchan_rule.specs.Seated.{view}
 use Rattle.qrexec_frame.specs.declared.message.Message.{Message}
 use Rattle.call_broker.specs.Domains.{Domains, count_of}
+use Rattle.call_broker.specs.Journal.{is_dropped}
 use Rattle.task_duties.specs.Words.{ident_of}
 use Rattle.task_duties.specs.Broker.Owes.{broker_version, awaited_of}
 use Rattle.task_duties.specs.declared.turn.TaskTurn.TheVariants as own
@@ -34,12 +36,13 @@ use Rattle.standstill_laws.specs.Control.{Talks}
 use Rattle.standstill_laws.specs.Letters.{IsPortOf}
 use Rattle.standstill_laws.specs.Asking.{heard_so_far}
 use Rattle.standstill_laws.specs.Order.{HasGrown, AreSentInOrder}
-use Rattle.standstill_laws.specs.Counting.{TurnMade, AreMade, NoStretchRests}
+use Rattle.standstill_laws.specs.Sessions.{PeerHasLeft}
+use Rattle.standstill_laws.specs.Counting.{TurnMade, AreMade, work_of_all, NoStretchRests}
 use Rattle.standstill_laws.specs.Work.{IsHonestRun, run_work}
 use Rattle.standstill_laws.specs.Stretch.{AreMoments, HoldsControl, HoldsLine}
 use Rattle.standstill_laws.specs.Moments.{IsBetween}
 use Rattle.standstill_laws.specs.Pace.{IsHeld}
-use Rattle.standstill_laws.specs.Idle.{Span, RunPages, IsIdle}
+use Rattle.standstill_laws.specs.Idle.{Span, OfHonest, OfHostile, RunPages, IsIdle}
 
 -- how many of the turns are those of the task at this place
 abbrev pub turns_of : ℕ → List TurnMade → ℕ
@@ -75,20 +78,47 @@ pub record ServingStays (span : Span) (first now : ℕ → Task) (place i : ℕ)
   pub was_held : IsHeld (ServesWith from) span.first.client
   pub is_held : IsHeld (ServesWith to) span.last.client
 
--- a session isn't open; or its agent and one of these peers are at the two ends of its page; or the end across from it was retired before
+-- a caller, or a side that serves
+abbrev pub IsSide : Session → Type 0
+IsSide (CallsWith at) = Unit {0}
+IsSide (ServesWith at) = Unit {0}
+IsSide session = ⊥
+
+-- the agent at the first moment, of which a session at this place is on a page that its peer, a hostile domain, had left before
+pub record StaysAlone (pages : RunPages) (first : ℕ → Task) (place i : ℕ) : Type 0 where
+  pub who : Role
+  pub at : ℕ → Core
+  pub page : pages.session place i ≡ OfHostile who at
+  pub left : (n : ℕ) → PeerHasLeft (at n) who
+  pub old : AgentState
+  pub was : first (place + 1) ≡ Agent old
+  pub tells : TellsSoFar old
+  pub side : IsSide (session_at old.sessions i)
+
+-- a session isn't open; or its agent and one of these peers are at the two ends of its page; or the end across from it was retired before; or a hostile peer had left
 pub data SessionStays (pages : RunPages) (first now : ℕ → Task) (IsPeer : ℕ → Type 0) (place i : ℕ) (s : Session) : Type 0 where
   IsShut : is_open s ≡ false → SessionStays pages first now IsPeer place i s
-  AsCaller : (peer j : ℕ) → IsPeer peer → pages.session peer j ≡ pages.session place i → AreMoments (pages.session place i).first (pages.session place i).last
-      → CallerStays (pages.session place i) first now place i → ServingStays (pages.session place i) first now peer j → SessionStays pages first now IsPeer place i s
-  AsServing : (peer j : ℕ) → IsPeer peer → pages.session peer j ≡ pages.session place i → AreMoments (pages.session place i).first (pages.session place i).last
-      → CallerStays (pages.session place i) first now peer j → ServingStays (pages.session place i) first now place i → SessionStays pages first now IsPeer place i s
-  CallsAlone : CallerStays (pages.session place i) first now place i → (pages.session place i).first.client.retired ≡ true → SessionStays pages first now IsPeer place i s
-  ServesAlone : ServingStays (pages.session place i) first now place i → (pages.session place i).first.server.retired ≡ true → SessionStays pages first now IsPeer place i s
+  AsCaller : (span : Span) (peer j : ℕ) → IsPeer peer → pages.session place i ≡ OfHonest span → pages.session peer j ≡ OfHonest span → AreMoments span.first span.last
+      → CallerStays span first now place i → ServingStays span first now peer j → SessionStays pages first now IsPeer place i s
+  AsServing : (span : Span) (peer j : ℕ) → IsPeer peer → pages.session place i ≡ OfHonest span → pages.session peer j ≡ OfHonest span → AreMoments span.first span.last
+      → CallerStays span first now peer j → ServingStays span first now place i → SessionStays pages first now IsPeer place i s
+  CallsAlone : (span : Span) → pages.session place i ≡ OfHonest span → CallerStays span first now place i → span.first.client.retired ≡ true → SessionStays pages first now IsPeer place i s
+  ServesAlone : (span : Span) → pages.session place i ≡ OfHonest span → ServingStays span first now place i → span.first.server.retired ≡ true → SessionStays pages first now IsPeer place i s
+  IsLeftAlone : StaysAlone pages first place i → SessionStays pages first now IsPeer place i s
 
 -- ---- a domain
 
+-- the domain behind this place was dropped
+pub record WasDropped (broker : BrokerState) (place : ℕ) (line : BrokerLine) : Type 0 where
+  pub told : is_dropped broker.journal (place + 1) ≡ true
+  pub shut : is_shut (view line.end).state ≡ true
+
+-- a place of a run's agents whose domain is honest
+abbrev pub IsHonestAgent : Domains → (ℕ → Bool) → ℕ → Type 0
+IsHonestAgent hub honest place = (place < count_of hub) × (honest (place + 1) ≡ true)
+
 -- the domain behind this place, of which the broker keeps this between two of its turns in a stretch, after the second of which it is `then`
-pub record DomainStays (pages : RunPages) (first now last : ℕ → Task) (broker then : BrokerState) (said : ℕ → List Message) (place : ℕ) (line : BrokerLine) : Type 0 where
+pub record DomainStays (honest : ℕ → Bool) (pages : RunPages) (first now last : ℕ → Task) (broker then : BrokerState) (said : ℕ → List Message) (place : ℕ) (line : BrokerLine) : Type 0 where
   -- the ends of its control page at the first moment and at the last, and at one between the broker's two turns
   pub moments : AreMoments (pages.control place).first (pages.control place).last
   pub begins_open : (pages.control place).first.client.state ≡ Open
@@ -126,12 +156,12 @@ pub record DomainStays (pages : RunPages) (first now last : ℕ → Task) (broke
   pub differ : AreDifferent (map (λ call. ident_of call.number) task.plan.calls)
   pub given : Each (IsUnusedBy task.plan.domain task.plan.places) (heard_so_far task)
   pub order : AreSentInOrder broker.hub broker.journal task.plan.domain tells.once.said
-  pub sessions : (i : ℕ) → SessionStays pages first last (λ peer. peer < count_of broker.hub) place i (session_at task.sessions i)
+  pub sessions : (i : ℕ) → SessionStays pages first last (IsHonestAgent broker.hub honest) place i (session_at task.sessions i)
 
 -- ---- a stretch
 
 -- so stand the tasks and their pages in turns that all did nothing: at the first moment, right before a turn of the broker, and at the last moment
-pub record StretchStands (pages : RunPages) (first now last : ℕ → Task) (turns : List TurnMade) (next : TurnMade) (rest : List TurnMade) : Type 0 where
+pub record StretchStands (honest : ℕ → Bool) (pages : RunPages) (first now last : ℕ → Task) (turns : List TurnMade) (next : TurnMade) (rest : List TurnMade) : Type 0 where
   pub idle : Each (IsIdle pages) (turns ++ next ∷ rest)
   pub broker : BrokerState
   pub is : now 0 ≡ Broker broker
@@ -140,40 +170,50 @@ pub record StretchStands (pages : RunPages) (first now last : ℕ → Task) (tur
   -- what the contract says of the broker after its turn before that one, and what no contract says
   pub stands : StandsAfter (own.Again broker)
   pub lines : length broker.lines ≡ count_of broker.hub
-  pub grown : HasGrown broker.hub (λ d. true) broker.journal
-  pub domains : (place : ℕ) (line : BrokerLine) → IsAt broker.lines place line → DomainStays pages first now last broker then stands.0.said place line
+  pub grown : HasGrown broker.hub honest broker.journal
+  pub domains : (place : ℕ) (line : BrokerLine) → IsAt broker.lines place line → WasDropped broker place line ⊎ ((honest (place + 1) ≡ true) × DomainStays honest pages first now last broker then stands.0.said place line)
 
--- before that turn the broker and each agent made one, and eight of all the turns are those of each agent
-pub record StretchRests (pages : RunPages) (first now last : ℕ → Task) (turns : List TurnMade) (next : TurnMade) (rest : List TurnMade) : Type 0 where
-  pub so : StretchStands pages first now last turns next rest
+-- before that turn the broker and the agent of each honest domain made one, and eight of all the turns are those of each of these agents
+pub record StretchRests (honest : ℕ → Bool) (pages : RunPages) (first now last : ℕ → Task) (turns : List TurnMade) (next : TurnMade) (rest : List TurnMade) : Type 0 where
+  pub so : StretchStands honest pages first now last turns next rest
   pub made : AreMade (count_of so.broker.hub + 1) first turns now
   pub made_rest : AreMade (count_of so.broker.hub + 1) now (next ∷ rest) last
   pub next_place : next.place ≡ 0
   pub broker_turned : 0 < turns_of 0 turns
-  pub agents_turned : (place : ℕ) → place < count_of so.broker.hub → 0 < turns_of (place + 1) turns
-  pub agents_turned_on : (place : ℕ) → place < count_of so.broker.hub → 8 ≤ turns_of (place + 1) (turns ++ next ∷ rest)
+  pub agents_turned : (place : ℕ) → IsHonestAgent so.broker.hub honest place → 0 < turns_of (place + 1) turns
+  pub agents_turned_on : (place : ℕ) → IsHonestAgent so.broker.hub honest place → 8 ≤ turns_of (place + 1) (turns ++ next ∷ rest)
 
 -- there is no such stretch
 abbrev pub NoStretchLasts : Type 0
-NoStretchLasts = (pages : RunPages) (first now last : ℕ → Task) (turns : List TurnMade) (next : TurnMade) (rest : List TurnMade) → ¬ StretchRests pages first now last turns next rest
+NoStretchLasts = (honest : ℕ → Bool) (pages : RunPages) (first now last : ℕ → Task) (turns : List TurnMade) (next : TurnMade) (rest : List TurnMade) → ¬ StretchRests honest pages first now last turns next rest
 
 -- ---- a run
 
--- among so many turns in a row is one of each task
-abbrev pub IsFair : (many round : ℕ) → List TurnMade → Type 0
-IsFair many round turns = (before row after : List TurnMade) → turns ≡ before ++ row ++ after → length row ≡ round → (place : ℕ) → place < many → 0 < turns_of place row
+-- the place of the broker, or that of the agent of an honest domain
+abbrev pub IsHonestPlace : Domains → (ℕ → Bool) → ℕ → Type 0
+IsHonestPlace hub honest place = (place ≡ 0) ⊎ ((place < count_of hub + 1) × (honest place ≡ true))
 
--- wherever turns in a row did nothing, eight or more of each task, and one of each before one of the broker's, the tasks of these domains stand so on their pages
-abbrev pub StandThroughout : Domains → List TurnMade → Type 0
-StandThroughout hub turns = (before row rest after : List TurnMade) (next : TurnMade) (first now last : ℕ → Task) → turns ≡ before ++ (row ++ next ∷ rest) ++ after → AreMade (count_of hub + 1) first row now → AreMade (count_of hub + 1) now (next ∷ rest) last → next.place ≡ 0
-    → ((place : ℕ) → place < count_of hub + 1 → (0 < turns_of place row) × (8 ≤ turns_of place (row ++ next ∷ rest))) → Each (λ made. DoesNothing made.before made.now) (row ++ next ∷ rest)
-    → (pages : RunPages) × ((so : StretchStands pages first now last row next rest) × (so.broker.hub ≡ hub))
+-- among so many turns in a row is one of each of these tasks. A hostile one need make none: it has none among turns that did nothing
+abbrev pub IsFair : Domains → (honest : ℕ → Bool) → (round : ℕ) → List TurnMade → Type 0
+IsFair hub honest round turns = (before row after : List TurnMade) → turns ≡ before ++ row ++ after → length row ≡ round → (place : ℕ) → IsHonestPlace hub honest place → 0 < turns_of place row
+
+-- wherever turns in a row did nothing, eight or more of each of these tasks, and one of each before one of the broker's, the tasks of these domains stand so on their pages
+abbrev pub StandThroughout : Domains → (honest : ℕ → Bool) → List TurnMade → Type 0
+StandThroughout hub honest turns = (before row rest after : List TurnMade) (next : TurnMade) (first now last : ℕ → Task) → turns ≡ before ++ (row ++ next ∷ rest) ++ after → AreMade (count_of hub + 1) first row now → AreMade (count_of hub + 1) now (next ∷ rest) last → next.place ≡ 0
+    → ((place : ℕ) → IsHonestPlace hub honest place → (0 < turns_of place row) × (8 ≤ turns_of place (row ++ next ∷ rest))) → Each (λ made. DoesNothing made.before made.now) (row ++ next ∷ rest)
+    → (pages : RunPages) × ((so : StretchStands honest pages first now last row next rest) × (so.broker.hub ≡ hub))
 
 -- then in a run whose broker goes on there aren't eight times so many turns in a row that all did nothing
 abbrev pub StretchesAreShort : Type 0
-StretchesAreShort = (hub : Domains) (round : ℕ) (first last : ℕ → Task) (turns : List TurnMade) → AreMade (count_of hub + 1) first turns last → IsFair (count_of hub + 1) round turns → StandThroughout hub turns → NoStretchRests (8 * round) turns
+StretchesAreShort = (hub : Domains) (honest : ℕ → Bool) (round : ℕ) (first last : ℕ → Task) (turns : List TurnMade) → AreMade (count_of hub + 1) first turns last → IsFair hub honest round turns → StandThroughout hub honest turns
+    → NoStretchRests (8 * round) turns
 
--- so the turns after which a task goes on, while the broker does, are fewer than that number times one more than what all tasks have done at most
+-- so the turns after which a task goes on, while the broker does, are fewer than that number times one more than what all tasks have done in the end
+abbrev pub FairTurnsAreBounded : Type 0
+FairTurnsAreBounded = (hub : Domains) (honest : ℕ → Bool) (round : ℕ) (first last : ℕ → Task) (turns : List TurnMade) → 0 < round → AreMade (count_of hub + 1) first turns last → IsFair hub honest round turns → StandThroughout hub honest turns
+    → length turns < (work_of_all (count_of hub + 1) last + 1) * (8 * round)
+
+-- of a run between honest domains, than that number times one more than what all its tasks have done at most
 abbrev pub FairRunsAreBounded : Type 0
-FairRunsAreBounded = (hub : Domains) (round : ℕ) (first last : ℕ → Task) (turns : List TurnMade) (broker : BrokerState) (agents : ℕ → AgentState) → 0 < round → AreMade (count_of hub + 1) first turns last → IsFair (count_of hub + 1) round turns
-    → StandThroughout hub turns → IsHonestRun hub last broker agents → length turns < (run_work hub agents + 1) * (8 * round)
+FairRunsAreBounded = (hub : Domains) (honest : ℕ → Bool) (round : ℕ) (first last : ℕ → Task) (turns : List TurnMade) (broker : BrokerState) (agents : ℕ → AgentState) → 0 < round → AreMade (count_of hub + 1) first turns last
+    → IsFair hub honest round turns → StandThroughout hub honest turns → IsHonestRun hub last broker agents → length turns < (run_work hub agents + 1) * (8 * round)

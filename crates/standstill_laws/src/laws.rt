@@ -21,8 +21,8 @@ ghost use Rattle.standstill_laws.specs.Moments.{MomentsRest, PagesGoOn};
 ghost use Rattle.standstill_laws.specs.Pace.{NoSessionRests};
 ghost use Rattle.standstill_laws.specs.Resting.{OutboxesAreEmpty};
 ghost use Rattle.standstill_laws.specs.Lasting.{NoRunLasts};
-ghost use Rattle.standstill_laws.specs.Stretches.{NoStretchLasts, StretchesAreShort, FairRunsAreBounded};
-ghost use Rattle.standstill_laws.specs.Leaving.{NoAgentLasts, LeavingIsShort, WholeRunsAreBounded};
+ghost use Rattle.standstill_laws.specs.Stretches.{NoStretchLasts, StretchesAreShort, FairTurnsAreBounded, FairRunsAreBounded};
+ghost use Rattle.standstill_laws.specs.Leaving.{NoAgentLasts, LeavingIsShort, WholeTurnsAreBounded, WholeRunsAreBounded};
 ghost use Rattle.standstill_laws.specs.Hostile.{LeftAreDropped, NoHostileTaskRests, NoSessionRestsAlone};
 ghost use Rattle.standstill_laws.specs.Order.{EndsComeInOrder, NoneIsEarly, AgentsHearInOrder};
 
@@ -214,23 +214,24 @@ pub fn no_session_rests()
 {}
 
 /// Where the broker made two turns in a row that did nothing, while nothing came or went on its control pages and each
-/// agent found nothing there, no letter waits for any domain between the two turns, and each control page stands still:
-/// the broker left no drain out for a full outbox.
+/// agent found nothing there, no letter waits between the two turns for any domain that wasn't dropped, and each of their
+/// control pages stands still: the broker left no drain out for a full outbox.
 pub fn outboxes_are_empty()
     ensures { OutboxesAreEmpty }
 {}
 
-/// No run between honest domains rests for long while its broker goes on: it isn't so that the broker made two turns in
-/// a row that did nothing, and went on after the first, if between the two each agent had made a turn that did nothing in
-/// which it might have asked for a call, and each side of an open session eight; and if what their calls found was so at
-/// moments of their pages, on which nothing came or went.
+/// No run rests for long while its broker goes on, if each hostile domain was dropped: it isn't so that the broker made two
+/// turns in a row that did nothing, and went on after the first, if between the two each honest agent had made a turn that
+/// did nothing in which it might have asked for a call, and each side of an open session eight; and if what their calls
+/// found was so at moments of their pages, on which nothing came or went. A session with a hostile domain made eight on a
+/// page that this domain had left.
 pub fn no_run_lasts()
     ensures { NoRunLasts }
 {}
 
-/// There is no stretch of turns of all tasks that did nothing, of which eight are those of each agent, with a turn of the
-/// broker's before which it and each agent made one, if the broker went on then. What the calls of these turns found was
-/// so at moments of their pages.
+/// There is no stretch of turns of all tasks that did nothing, of which eight are those of each honest agent, with a turn of
+/// the broker's before which it and each of these made one, if the broker went on then. What the calls of these turns found
+/// was so at moments of their pages.
 pub fn no_stretch_lasts()
     ensures { NoStretchLasts }
 {}
@@ -324,20 +325,26 @@ pub fn run_turns_are_bounded()
     ensures { RunTurnsAreBounded }
 {}
 
-/// Where each task has one of so many turns in a row, a run between honest domains doesn't make eight times so many turns
+/// Where the broker and each honest agent have one of so many turns in a row, a run doesn't make eight times so many turns
 /// in a row that all do nothing, while its broker goes on.
 pub fn stretches_are_short()
     ensures { StretchesAreShort }
 {}
 
 /// So while its broker goes on, the turns of such a run after which a task goes on are fewer than eight times that number,
-/// times one more than all its tasks have done at most.
+/// times one more than what all its tasks have done in the end.
+pub fn fair_turns_are_bounded()
+    ensures { FairTurnsAreBounded }
+{}
+
+/// In a run between honest domains they are fewer than eight times that number, times one more than all its tasks have done
+/// at most.
 pub fn fair_runs_are_bounded()
     ensures { FairRunsAreBounded }
 {}
 
 /// Once the broker is done, an agent that goes on doesn't make eight turns of a stretch that did nothing, if the agent
-/// across from each of its open sessions does.
+/// across from each of its open sessions does, or a hostile domain there had left.
 pub fn no_agent_lasts()
     ensures { NoAgentLasts }
 {}
@@ -348,8 +355,14 @@ pub fn leaving_is_short()
     ensures { LeavingIsShort }
 {}
 
-/// So the turns of a whole run between honest domains after which a task goes on are fewer than sixteen times that
-/// number and one, times one more than all its tasks have done at most.
+/// So the turns of a whole run after which a task goes on are fewer than sixteen times that number and one, times one more
+/// than what all its tasks have done in the end.
+pub fn whole_turns_are_bounded()
+    ensures { WholeTurnsAreBounded }
+{}
+
+/// In a run between honest domains they are fewer than sixteen times that number and one, times one more than all its tasks
+/// have done at most.
 pub fn whole_runs_are_bounded()
     ensures { WholeRunsAreBounded }
 {}
