@@ -76,7 +76,7 @@ told_here core who old new f still = by_word (not_gone (subst (λ (o : Option �
     by_word : not (word == 0) ≡ false → word ≡ 0
     by_word none = by_test (word == 0) refl none
 
-heard_here : (core : Core) (old new : BrokerLine) (q : IsQuiet old new) → IsGoneStill core Client (loads_of (standing_of q.hears.began.side) q.heard.side.trail) → word_at core.orders core.words (peer_gone Client) ≡ 0
+pub heard_here : (core : Core) (old new : BrokerLine) (q : IsQuiet old new) → IsGoneStill core Client (loads_of (standing_of q.hears.began.side) q.heard.side.trail) → word_at core.orders core.words (peer_gone Client) ≡ 0
 heard_here core old new q still = by_finds q.hears.finds
   where
     by_finds : FindsNotYet q.hears.began q.heard ⊎ (IsSome old.version × (64 ≤ length q.letters) × FindsHere q.hears.began q.heard) → word_at core.orders core.words (peer_gone Client) ≡ 0

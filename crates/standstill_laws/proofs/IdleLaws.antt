@@ -23,7 +23,7 @@ use Rattle.domain_task.specs.Turning.{AgentTurns}
 use Rattle.domain_task.specs.Working.{DoesNothing, SessionRests, CallerRests, ServingRests, PageAwaited, HasNotBegun, HadEnded, AgentRests, Rests}
 use Rattle.standstill_laws.specs.Counting.{TurnMade, tasks_after, AreMade, NoneIsMade, OneIsMade}
 use Rattle.standstill_laws.specs.Pace.{CallRests, NoTurn, QuietTurn, PassedTurn, ServingRests as ServesOn, NoServing, QuietServing, PassedServing}
-use Rattle.standstill_laws.specs.Idle.{Span, SessionPage, OfHonest, OfHostile, RunPages, CallFound, ServingFound, SessionFound, AgentFound, LineFound, LinesFound, IsIdle, AgentIsIdle, BrokerIsIdle}
+use Rattle.standstill_laws.specs.Idle.{Span, RunPage, OfHonest, OfHostile, RunPages, CallFound, ServingFound, SessionFound, AgentFound, LineFound, LinesFound, IsIdle, AgentIsIdle, BrokerIsIdle}
 use Rattle.standstill_laws.specs.Stretches.{turns_of, IsSide, StaysAlone}
 use Rattle.standstill_laws.specs.Sessions.{PeerHasLeft}
 use Rattle.standstill_laws.specs.Hostile.{RestsAlone, NoneMade, CallQuiet, CallPassed, ServingQuiet, ServingPassed}
@@ -115,7 +115,7 @@ record Goes (Kind : Session → Type 0) (R : ℕ → Session → Session → Typ
   kind : Kind new
   more : (n : ℕ) (then : Session) → R n new then → R (suc n) old then
 
-abbrev EachGoes : (Session → Type 0) → (ℕ → Session → Session → Type 0) → SessionPage → Type 0
+abbrev EachGoes : (Session → Type 0) → (ℕ → Session → Session → Type 0) → RunPage → Type 0
 EachGoes Kind R page = (version : ℕ) (old new : Session) (r : SessionRests old new) → SessionFound page old new r → IsVersion version → SessionStands version old → Kind old → Goes Kind R old new
 
 -- the agent at the end of a stretch, and its session
@@ -279,35 +279,35 @@ few_alone pages place i many first last turns made idle a =
 -- ---- what the broker keeps of one domain
 
 -- before a turn, and after it
-pub record LineWas (span : Span) (before : List BrokerLine) (place : ℕ) (line : BrokerLine) : Type 0 where
+pub record LineWas (page : RunPage) (before : List BrokerLine) (place : ℕ) (line : BrokerLine) : Type 0 where
   pub old : BrokerLine
   pub there : IsAt before place old
   pub rests : Rests old line
-  pub found : LineFound span old line rests
+  pub found : LineFound page old line rests
 
-pub record LineWill (span : Span) (after : List BrokerLine) (place : ℕ) (line : BrokerLine) : Type 0 where
+pub record LineWill (page : RunPage) (after : List BrokerLine) (place : ℕ) (line : BrokerLine) : Type 0 where
   pub new : BrokerLine
   pub there : IsAt after place new
   pub rests : Rests line new
-  pub found : LineFound span line new rests
+  pub found : LineFound page line new rests
 
-record PairAt (span : Span) (before after : List BrokerLine) (place : ℕ) : Type 0 where
+record PairAt (page : RunPage) (before after : List BrokerLine) (place : ℕ) : Type 0 where
   old : BrokerLine
   new : BrokerLine
   was : IsAt before place old
   is : IsAt after place new
   rests : Rests old new
-  found : LineFound span old new rests
+  found : LineFound page old new rests
 
-pair_at : (spans : ℕ → Span) (from : ℕ) (before after : List BrokerLine) (each : EachPair Rests before after) → LinesFound spans from before after each → (place : ℕ) → place < length before → PairAt (spans (from + place)) before after place
-pair_at spans from [] after each found place less = absurd (omega (arith, less))
-pair_at spans from (x ∷ before) [] each found place less = absurd each
-pair_at spans from (x ∷ before) (y ∷ after) each found zero less =
+pair_at : (pages : ℕ → RunPage) (from : ℕ) (before after : List BrokerLine) (each : EachPair Rests before after) → LinesFound pages from before after each → (place : ℕ) → place < length before → PairAt (pages (from + place)) before after place
+pair_at pages from [] after each found place less = absurd (omega (arith, less))
+pair_at pages from (x ∷ before) [] each found place less = absurd each
+pair_at pages from (x ∷ before) (y ∷ after) each found zero less =
     let here : from ≡ from + 0 = omega arith in
-    record { old = x; new = y; was = record { within = omega arith; is = refl }; is = record { within = omega arith; is = refl }; rests = each.0; found = subst (λ (n : ℕ). LineFound (spans n) x y each.0) here found.0 }
-pair_at spans from (x ∷ before) (y ∷ after) each found (suc place) less = up (pair_at spans (from + 1) before after each.1 found.1 place (omega (arith, less)))
+    record { old = x; new = y; was = record { within = omega arith; is = refl }; is = record { within = omega arith; is = refl }; rests = each.0; found = subst (λ (n : ℕ). LineFound (pages n) x y each.0) here found.0 }
+pair_at pages from (x ∷ before) (y ∷ after) each found (suc place) less = up (pair_at pages (from + 1) before after each.1 found.1 place (omega (arith, less)))
   where
-    up : PairAt (spans ((from + 1) + place)) before after place → PairAt (spans (from + suc place)) (x ∷ before) (y ∷ after) (suc place)
+    up : PairAt (pages ((from + 1) + place)) before after place → PairAt (pages (from + suc place)) (x ∷ before) (y ∷ after) (suc place)
     up p =
         let here : (from + 1) + place ≡ from + suc place = omega arith in
         record {
@@ -316,7 +316,7 @@ pair_at spans from (x ∷ before) (y ∷ after) each found (suc place) less = up
           was = record { within = omega (arith, p.was.within); is = p.was.is };
           is = record { within = omega (arith, p.is.within); is = p.is.is };
           rests = p.rests;
-          found = subst (λ (n : ℕ). LineFound (spans n) p.old p.new p.rests) here p.found;
+          found = subst (λ (n : ℕ). LineFound (pages n) p.old p.new p.rests) here p.found;
         }
 
 as_long : (before after : List BrokerLine) → EachPair Rests before after → length before ≡ length after
@@ -325,19 +325,19 @@ as_long [] (y ∷ after) each = absurd each
 as_long (x ∷ before) [] each = absurd each
 as_long (x ∷ before) (y ∷ after) each = omega (arith, as_long before after each.1)
 
-pub line_was : (spans : ℕ → Span) (before after : List BrokerLine) (each : EachPair Rests before after) → LinesFound spans 0 before after each → (place : ℕ) (line : BrokerLine) → IsAt after place line → LineWas (spans place) before place line
-line_was spans before after each found place line at =
-    let p = pair_at spans 0 before after each found place (omega (arith, at.within, as_long before after each)) in
+pub line_was : (pages : ℕ → RunPage) (before after : List BrokerLine) (each : EachPair Rests before after) → LinesFound pages 0 before after each → (place : ℕ) (line : BrokerLine) → IsAt after place line → LineWas (pages place) before place line
+line_was pages before after each found place line at =
+    let p = pair_at pages 0 before after each found place (omega (arith, at.within, as_long before after each)) in
     let same : p.new ≡ line = at_one after place p.new line p.is at in
     let here : 0 + place ≡ place = omega arith in
-    subst (λ (n : ℕ). LineWas (spans n) before place line) here (subst (λ (l : BrokerLine). LineWas (spans (0 + place)) before place l) same (record { old = p.old; there = p.was; rests = p.rests; found = p.found }))
+    subst (λ (n : ℕ). LineWas (pages n) before place line) here (subst (λ (l : BrokerLine). LineWas (pages (0 + place)) before place l) same (record { old = p.old; there = p.was; rests = p.rests; found = p.found }))
 
-pub line_will : (spans : ℕ → Span) (before after : List BrokerLine) (each : EachPair Rests before after) → LinesFound spans 0 before after each → (place : ℕ) (line : BrokerLine) → IsAt before place line → LineWill (spans place) after place line
-line_will spans before after each found place line at =
-    let p = pair_at spans 0 before after each found place at.within in
+pub line_will : (pages : ℕ → RunPage) (before after : List BrokerLine) (each : EachPair Rests before after) → LinesFound pages 0 before after each → (place : ℕ) (line : BrokerLine) → IsAt before place line → LineWill (pages place) after place line
+line_will pages before after each found place line at =
+    let p = pair_at pages 0 before after each found place at.within in
     let same : p.old ≡ line = at_one before place p.old line p.was at in
     let here : 0 + place ≡ place = omega arith in
-    subst (λ (n : ℕ). LineWill (spans n) after place line) here (subst (λ (l : BrokerLine). LineWill (spans (0 + place)) after place l) same (record { new = p.new; there = p.is; rests = p.rests; found = p.found }))
+    subst (λ (n : ℕ). LineWill (pages n) after place line) here (subst (λ (l : BrokerLine). LineWill (pages (0 + place)) after place l) same (record { new = p.new; there = p.is; rests = p.rests; found = p.found }))
 
 -- there is one at each place
 pub line_at : (lines : List BrokerLine) (place : ℕ) → place < length lines → (line : BrokerLine) × IsAt lines place line

@@ -10,7 +10,7 @@ use Rattle.agent_task.specs.State.{TellsSoFar}
 use Rattle.domain_task.specs.declared.task.Task.{Task}
 use Rattle.domain_task.specs.Working.{DoesNothing}
 use Rattle.standstill_laws.specs.Counting.{TurnMade, AreMade, NoStretchRests}
-use Rattle.standstill_laws.specs.Idle.{RunPages}
+use Rattle.standstill_laws.specs.Idle.{RunPage, RunPages, ChannelFound}
 use Rattle.standstill_laws.specs.Stretches.{turns_of}
 use Rattle.standstill_laws.specs.Leaving.{AgentStands, NoAgentLasts, IsFairTill, LeavingIsShort, IsFairRun, WholeTurnsAreBounded, WholeRunsAreBounded}
 use Rattle.standstill_laws.proofs.PaceLaws.{peer_was_there}
@@ -34,8 +34,8 @@ no_agent_rests pages many first now turns place made a long = by turn.turns.1.0
 
     by : (a.task.over ≡ None) ⊎ (a.task.opened ≢ []) → ⊥
     by (inl up) =
-        let d = agent_drain (pages.control place) turn.before a.task turn.rests.channel turn.found.heard up in
-        let here : (pages.control place).first.client.retired ≡ false = peer_was_there (pages.control place).first (pages.control place).last Server d.began d.heard d.not_yet d.here in
+        let d = agent_drain a.span turn.before a.task turn.rests.channel (subst (λ (p : RunPage). ChannelFound p turn.before a.task turn.rests.channel) a.control turn.found.heard) up in
+        let here : a.span.first.client.retired ≡ false = peer_was_there a.span.first a.span.last Server d.began d.heard d.not_yet d.here in
         let bad : true ≡ false = sym a.retired ∙ here in
         cc
     by (inr open_still) =

@@ -1,5 +1,5 @@
 -- A stretch of turns that did nothing tells all by which a run would be over.
-use Rattle.std.proofs.Common.{◌≡◌, ◌≢◌, ◌⊎◌, ℕ, ◌+◌, ◌<◌, ◌≤◌, Bool, true, false, List, [], ◌∷◌, ◌++◌, Option, Some, None, sym, ap, ◌∙◌, subst, arith, inl, inr}
+use Rattle.std.proofs.Common.{◌≡◌, ◌≢◌, ◌⊎◌, ℕ, ◌+◌, ◌<◌, ◌≤◌, Bool, true, false, List, [], ◌∷◌, ◌++◌, Option, Some, None, refl, sym, ap, ◌∙◌, subst, arith, inl, inr}
 use Rattle.std.specs.Prelude.{IsSome}
 use Rattle.std.proofs.lemmas.Option.{none-some}
 use Rattle.std.specs.List.{AllZip as EachPair, AllByRecursion as Each}
@@ -38,12 +38,13 @@ use Rattle.standstill_laws.specs.Stretch.{AreMoments, HoldsControl}
 use Rattle.standstill_laws.specs.Moments.{WasSo}
 use Rattle.standstill_laws.specs.Pace.{CallRests, ServingRests, BothRest}
 use Rattle.standstill_laws.specs.Resting.{DrainBetween}
-use Rattle.standstill_laws.specs.Idle.{Span, OfHonest, RunPages, HeardFound, ChannelFound, NoMoreFound, SaidFound, AsksNone, AgentFound, LinesFound, IsIdle, AgentIsIdle, BrokerIsIdle}
+use Rattle.standstill_laws.specs.Idle.{Span, RunPage, OfHonest, RunPages, HeardFound, ChannelFound, NoMoreFound, SaidFound, AsksNone, AgentFound, LinesFound, IsIdle, AgentIsIdle, BrokerIsIdle}
 use Rattle.standstill_laws.specs.Lasting.{IsShut as StaysShut, LineLasts, DomainLasts}
-use Rattle.standstill_laws.specs.Stretches.{turns_of, CallerStays, ServingStays, SessionStays, IsShut, AsCaller, AsServing, CallsAlone, ServesAlone, IsLeftAlone, IsHonestAgent, WasDropped, DomainStays, StretchRests, NoStretchLasts}
+use Rattle.standstill_laws.specs.Stretches.{turns_of, CallerStays, ServingStays, SessionStays, IsShut, AsCaller, AsServing, CallsAlone, ServesAlone, IsLeftAlone, IsHonestAgent, IsGone, WasDropped, HasLeft, DomainStays, StretchRests, NoStretchLasts}
 use Rattle.standstill_laws.proofs.StretchLaws.{same_agent, same_broker, stretches_rest_lem, control_pages_rest_lem}
 use Rattle.standstill_laws.proofs.PaceLaws.{last_between, no_session_rests_lem}
-use Rattle.standstill_laws.proofs.IdleLaws.{all_nothing, last_turn, last_of_agent, last_of_broker, CallsOn, calls_on, ServesOnTo, serves_on, few_alone, line_was, line_will, line_at}
+use Rattle.standstill_laws.proofs.IdleLaws.{all_nothing, last_turn, last_of_agent, last_of_broker, CallsOn, calls_on, ServesOnTo, serves_on, few_alone, LineWas, LineWill, line_was, line_will, line_at}
+use Rattle.standstill_laws.proofs.HostileLaws.{heard_here}
 use Rattle.standstill_laws.proofs.LastingLaws.{no_run_lasts_lem}
 
 -- ---- the last turn of an agent
@@ -56,7 +57,7 @@ pub record DrainOf (span : Span) : Type 0 where
   pub found : DrainBetween span.first span.last Server began heard not_yet
   pub here : WasSo span.first span.last (λ core. IsGoneStill core Server (loads_of (standing_of began.side) heard.side.trail))
 
-pub agent_drain : (span : Span) (old new : AgentState) (r : ChannelRests old new) → ChannelFound span old new r → new.over ≡ None → DrainOf span
+pub agent_drain : (span : Span) (old new : AgentState) (r : ChannelRests old new) → ChannelFound (OfHonest span) old new r → new.over ≡ None → DrainOf span
 agent_drain span old new (IsUp was is still) found up = by old.channel new.channel still found
   where
     by : (o n : Option AgentControl) (still : IsStill o n) → HeardFound span o n still → DrainOf span
@@ -87,13 +88,13 @@ abbrev HasStops : Span → ℕ → Option AgentControl → Type 0
 HasStops span calls (Some c) = StopsOf span calls c
 HasStops span calls None = ⊥
 
-stops_in : (span : Span) (pages : ℕ) (o n : Option AgentControl) (turns : TurnsChannel pages o n) → SaidFound span pages o n turns → AsksNone o n → IsReady n → HasStops span (asked_at_most pages) n
+stops_in : (span : Span) (pages : ℕ) (o n : Option AgentControl) (turns : TurnsChannel pages o n) → SaidFound (OfHonest span) pages o n turns → AsksNone o n → IsReady n → HasStops span (asked_at_most pages) n
 stops_in span pages (Some old) (Some new) turns found none ready = stops_by span (asked_at_most pages) turns.waiting new turns.says found (none ∙ sym turns.next) ready.0 ready.1
 stops_in span pages (Some old) None turns found none ready = absurd turns
 stops_in span pages None (Some new) turns found none ready = absurd turns
 stops_in span pages None None turns found none ready = absurd turns
 
-agent_stops : (span : Span) (pages : ℕ) (o n : Option AgentControl) (turns : TurnsChannel pages o n) → SaidFound span pages o n turns → AsksNone o n → (channel : AgentControl) → n ≡ Some channel → channel.port.greeted ≡ true → IsSome channel.port.version
+agent_stops : (span : Span) (pages : ℕ) (o n : Option AgentControl) (turns : TurnsChannel pages o n) → SaidFound (OfHonest span) pages o n turns → AsksNone o n → (channel : AgentControl) → n ≡ Some channel → channel.port.greeted ≡ true → IsSome channel.port.version
     → StopsOf span (asked_at_most pages) channel
 agent_stops span pages o n turns found none channel is greeted version =
     let ready : IsReady n = subst IsReady (sym is) (greeted, version) in
@@ -207,12 +208,12 @@ session_shut pages many first now turns made idle IsPeer peers place i s long (I
 
 -- ---- a domain
 
-control_rested : (honest : ℕ → Bool) (pages : RunPages) (first now last : ℕ → Task) (turns : List TurnMade) (next : TurnMade) (rest : List TurnMade) → (r : StretchRests honest pages first now last turns next rest) → (place : ℕ) (line : BrokerLine) → DomainStays honest pages first now last r.so.broker r.so.then r.so.stands.0.said place line
-    → PageRested (pages.control place).first (pages.control place).last
+control_rested : (honest : ℕ → Bool) (pages : RunPages) (first now last : ℕ → Task) (turns : List TurnMade) (next : TurnMade) (rest : List TurnMade) → (r : StretchRests honest pages first now last turns next rest) → (place : ℕ) (line : BrokerLine) → (d : DomainStays honest pages first now last r.so.broker r.so.then r.so.stands.0.said place line)
+    → PageRested d.span.first d.span.last
 control_rested honest pages first now last turns next rest r place line d =
     let all = turns ++ next ∷ rest in
     let rests = stretches_rest_lem (count_of r.so.broker.hub + 1) first last all (whole honest pages first now last turns next rest r) (all_nothing pages all r.so.idle) in
-    control_pages_rest_lem (pages.control place).first (pages.control place).last (first (place + 1)) (last (place + 1)) (first 0) (last 0) place d.moments (rests (place + 1)) (rests 0) d.begins_open d.agent_first d.broker_first d.agent_last d.broker_last
+    control_pages_rest_lem d.span.first d.span.last (first (place + 1)) (last (place + 1)) (first 0) (last 0) place d.moments (rests (place + 1)) (rests 0) d.begins_open d.agent_first d.broker_first d.agent_last d.broker_last
 
 -- the agent's end of a control page is open
 agent_open : (task : Task) (side : Side) → HoldsControl task side → side.state ≡ Open
@@ -226,35 +227,52 @@ not_shut state up is = let bad : Open ≡ Shut = sym up ∙ is in cc
 within : (honest : ℕ → Bool) (pages : RunPages) (first now last : ℕ → Task) (turns : List TurnMade) (next : TurnMade) (rest : List TurnMade) → (r : StretchRests honest pages first now last turns next rest) → (place : ℕ) (line : BrokerLine) → IsAt r.so.broker.lines place line → place < count_of r.so.broker.hub
 within honest pages first now last turns next rest r place line there = omega (arith, there.within, r.so.lines)
 
+-- a domain that is gone was dropped: the broker's turn would have dropped it
+gone_shut : (pages : RunPages) (broker : BrokerState) → TurnTo pages broker → (place : ℕ) (line : BrokerLine) → IsAt broker.lines place line → IsGone pages broker place line → ¬ (is_shut (view line.end).state ≡ false)
+gone_shut pages broker to place line there (WasDropped told shut) up = let bad : true ≡ false = sym shut ∙ up in cc
+gone_shut pages broker to place line there (HasLeft at page left told) up =
+    let was = subst (λ (p : RunPage). LineWas p to.before.lines place line) page (line_was pages.control to.before.lines broker.lines to.rests to.found place line there) in
+    let found = was.found up in
+    left found.0 (heard_here (at found.0) was.old line (was.rests.quiet up) found.1)
+
+gone_told : (pages : RunPages) (broker : BrokerState) → TurnTo pages broker → (place : ℕ) (line : BrokerLine) → IsAt broker.lines place line → IsGone pages broker place line → is_dropped broker.journal (place + 1) ≡ true
+gone_told pages broker to place line there (WasDropped told shut) = told
+gone_told pages broker to place line there (HasLeft at page left told) = by_shut (is_shut (view line.end).state) refl
+  where
+    by_shut : (b : Bool) → is_shut (view line.end).state ≡ b → is_dropped broker.journal (place + 1) ≡ true
+    by_shut true is = told is
+    by_shut false is = absurd (gone_shut pages broker to place line there (HasLeft at page left told) is)
+
 other_of : {A B : Type 0} → ¬ A → A ⊎ B → B
 other_of none (inl a) = absurd (none a)
 other_of none (inr b) = b
 
--- a domain was dropped, or what the broker keeps of it isn't shut
+-- what the broker keeps of a domain that wasn't dropped isn't shut
 abbrev Stays : (honest : ℕ → Bool) (pages : RunPages) (first now last : ℕ → Task) (turns : List TurnMade) (next : TurnMade) (rest : List TurnMade) → (r : StretchRests honest pages first now last turns next rest) → (place : ℕ) (line : BrokerLine) → Type 0
-Stays honest pages first now last turns next rest r place line = WasDropped r.so.broker place line ⊎ ((honest (place + 1) ≡ true) × DomainStays honest pages first now last r.so.broker r.so.then r.so.stands.0.said place line)
+Stays honest pages first now last turns next rest r place line = (honest (place + 1) ≡ true) × DomainStays honest pages first now last r.so.broker r.so.then r.so.stands.0.said place line
 
 undropped : (honest : ℕ → Bool) (pages : RunPages) (first now last : ℕ → Task) (turns : List TurnMade) (next : TurnMade) (rest : List TurnMade) → (r : StretchRests honest pages first now last turns next rest) → (place : ℕ) (line : BrokerLine)
-    → Stays honest pages first now last turns next rest r place line → is_shut (view line.end).state ≡ false → (honest (place + 1) ≡ true) × DomainStays honest pages first now last r.so.broker r.so.then r.so.stands.0.said place line
-undropped honest pages first now last turns next rest r place line so up = other_of (λ dropped. let bad : true ≡ false = sym dropped.shut ∙ up in cc) so
+    → IsAt r.so.broker.lines place line → is_shut (view line.end).state ≡ false → Stays honest pages first now last turns next rest r place line
+undropped honest pages first now last turns next rest r place line there up =
+    other_of (λ gone. gone_shut pages r.so.broker (turn_to honest pages first now last turns next rest r) place line there gone up) (r.so.domains place line there)
 
-dropped_or_up : (honest : ℕ → Bool) (pages : RunPages) (first now last : ℕ → Task) (turns : List TurnMade) (next : TurnMade) (rest : List TurnMade) → (r : StretchRests honest pages first now last turns next rest) → (place : ℕ) (line : BrokerLine)
-    → Stays honest pages first now last turns next rest r place line → (is_dropped r.so.broker.journal (place + 1) ≡ true) ⊎ (is_shut (view line.end).state ≡ false)
-dropped_or_up honest pages first now last turns next rest r place line (inl dropped) = inl dropped.told
-dropped_or_up honest pages first now last turns next rest r place line (inr stays) = inr stays.1.up
+dropped_or_up : (honest : ℕ → Bool) (pages : RunPages) (first now last : ℕ → Task) (turns : List TurnMade) (next : TurnMade) (rest : List TurnMade) → (r : StretchRests honest pages first now last turns next rest) → (place : ℕ) (line : BrokerLine) → IsAt r.so.broker.lines place line
+    → IsGone pages r.so.broker place line ⊎ Stays honest pages first now last turns next rest r place line → (is_dropped r.so.broker.journal (place + 1) ≡ true) ⊎ (is_shut (view line.end).state ≡ false)
+dropped_or_up honest pages first now last turns next rest r place line there (inl gone) = inl (gone_told pages r.so.broker (turn_to honest pages first now last turns next rest r) place line there gone)
+dropped_or_up honest pages first now last turns next rest r place line there (inr stays) = inr stays.1.up
 
 line_lasts : (honest : ℕ → Bool) (pages : RunPages) (first now last : ℕ → Task) (turns : List TurnMade) (next : TurnMade) (rest : List TurnMade) → (r : StretchRests honest pages first now last turns next rest) → (place : ℕ) (line : BrokerLine) → IsAt r.so.broker.lines place line → is_shut (view line.end).state ≡ false
     → LineLasts (turn_to honest pages first now last turns next rest r).before.lines r.so.then.lines place line
 line_lasts honest pages first now last turns next rest r place line there up =
-    let both = undropped honest pages first now last turns next rest r place line (r.so.domains place line there) up in
+    let both = undropped honest pages first now last turns next rest r place line there up in
     let d = both.1 in
     let to = turn_to honest pages first now last turns next rest r in
     let from = turn_from honest pages first now last turns next rest r in
-    let was = line_was pages.control to.before.lines r.so.broker.lines to.rests to.found place line there in
-    let will = line_will pages.control r.so.broker.lines r.so.then.lines from.rests from.found place line there in
+    let was = subst (λ (p : RunPage). LineWas p to.before.lines place line) d.control (line_was pages.control to.before.lines r.so.broker.lines to.rests to.found place line there) in
+    let will = subst (λ (p : RunPage). LineWill p r.so.then.lines place line) d.control (line_will pages.control r.so.broker.lines r.so.then.lines from.rests from.found place line there) in
     let rested = control_rested honest pages first now last turns next rest r place line d in
     let turned = agent_turn pages (count_of r.so.broker.hub + 1) first now turns r.made (each_front (IsIdle pages) turns (next ∷ rest) r.so.idle) place d.task (r.agents_turned place (within honest pages first now last turns next rest r place line there, both.0)) d.task_is in
-    let drain = agent_drain (pages.control place) turned.before d.task turned.rests.channel turned.found.heard d.over in
+    let drain = agent_drain d.span turned.before d.task turned.rests.channel (subst (λ (p : RunPage). ChannelFound p turned.before d.task turned.rests.channel) d.control turned.found.heard) d.over in
     let new_up : is_shut (view will.new.end).state ≡ false = will.rests.shut ∙ up in
     record {
       rests = record {
@@ -265,12 +283,12 @@ line_lasts honest pages first now last turns next rest r place line there up =
         greets = d.greets will.new will.there;
         turn = was.rests.quiet up;
         next = will.rests.quiet new_up;
-        first = (pages.control place).first;
-        last = (pages.control place).last;
-        to_last = last_between (pages.control place).first (pages.control place).last d.moments rested;
+        first = d.span.first;
+        last = d.span.last;
+        to_last = last_between d.span.first d.span.last d.moments rested;
         rested = rested;
-        server_up = not_shut (pages.control place).last.server.state (agent_open (last (place + 1)) (pages.control place).last.server d.agent_last);
-        client_up = not_shut (pages.control place).last.client.state ((rested.ends Client).state ∙ d.begins_open);
+        server_up = not_shut d.span.last.server.state (agent_open (last (place + 1)) d.span.last.server d.agent_last);
+        client_up = not_shut d.span.last.client.state ((rested.ends Client).state ∙ d.begins_open);
         turn_found = was.found up;
         next_found = will.found new_up;
         began = drain.began;
@@ -288,11 +306,11 @@ domain_lasts : (honest : ℕ → Bool) (pages : RunPages) (first now last : ℕ 
     → is_shut (view line.end).state ≡ false → (honest (place + 1) ≡ true) × DomainLasts (turn_to honest pages first now last turns next rest r).before r.so.broker r.so.then r.so.stands.0.said (line_lasts honest pages first now last turns next rest r) place
 unfolding line_lasts
 domain_lasts honest pages first now last turns next rest r place line there up =
-    let both = undropped honest pages first now last turns next rest r place line (r.so.domains place line there) up in
+    let both = undropped honest pages first now last turns next rest r place line there up in
     let d = both.1 in
     let mine : IsHonestAgent r.so.broker.hub honest place = (within honest pages first now last turns next rest r place line there, both.0) in
     let turned = agent_turn pages (count_of r.so.broker.hub + 1) first now turns r.made (each_front (IsIdle pages) turns (next ∷ rest) r.so.idle) place d.task (r.agents_turned place mine) d.task_is in
-    let stops = agent_stops (pages.control place) d.task.pages turned.before.channel d.task.channel (turned.turns.1.2 d.over) (turned.found.said d.over) turned.found.asks_none d.channel d.channel_is d.agent_greeted d.agent_version in (
+    let stops = agent_stops d.span d.task.pages turned.before.channel d.task.channel (turned.turns.1.2 d.over) (subst (λ (p : RunPage). SaidFound p d.task.pages turned.before.channel d.task.channel (turned.turns.1.2 d.over)) d.control (turned.found.said d.over)) turned.found.asks_none d.channel d.channel_is d.agent_greeted d.agent_version in (
       both.0,
       record {
         line = line;
@@ -334,7 +352,7 @@ no_stretch_lasts_lem honest pages first now last turns next rest r =
   where
     by_place : (place : ℕ) → place < count_of r.so.broker.hub
         → (is_dropped r.so.broker.journal (place + 1) ≡ true) ⊎ ((honest (place + 1) ≡ true) × DomainLasts (turn_to honest pages first now last turns next rest r).before r.so.broker r.so.then r.so.stands.0.said (line_lasts honest pages first now last turns next rest r) place)
-    by_place place less = by_line (dropped_or_up honest pages first now last turns next rest r place l.0 (r.so.domains place l.0 l.1))
+    by_place place less = by_line (dropped_or_up honest pages first now last turns next rest r place l.0 l.1 (r.so.domains place l.0 l.1))
       where
         l : (line : BrokerLine) × IsAt r.so.broker.lines place line
         l = line_at r.so.broker.lines place (omega (arith, less, r.so.lines))

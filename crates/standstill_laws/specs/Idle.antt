@@ -21,7 +21,7 @@ use Rattle.broker_task.specs.Lines.{is_shut}
 use Rattle.broker_task.specs.Moving.{BrokerLine}
 use Rattle.domain_task.specs.declared.task.Task.TheVariants.{Agent, Broker}
 use Rattle.domain_task.specs.Turning.{AgentTurns, BrokerTurns}
-use Rattle.domain_task.specs.Working.{IsStill, ChannelRests, IsUp, WasOver, SessionRests, CallerRests, ServingRests, PageAwaited, HasNotBegun, HadEnded, AgentRests, Rests, Works}
+use Rattle.domain_task.specs.Working.{IsStill, ChannelRests, IsUp, SessionRests, CallerRests, ServingRests, PageAwaited, HasNotBegun, HadEnded, AgentRests, Rests, Works}
 use Rattle.standstill_laws.specs.Saying.{StopsStill}
 use Rattle.standstill_laws.specs.Sessions.{IsGoneStill}
 use Rattle.standstill_laws.specs.Counting.{TurnMade}
@@ -36,32 +36,32 @@ pub record Span : Type 0 where
   pub first : Core
   pub last : Core
 
--- the page of a session: two moments of one between honest domains; or one with a hostile domain, of which the other has this end, and its moments
-pub data SessionPage : Type 0 where
-  OfHonest : Span → SessionPage
-  OfHostile : (who : Role) (at : ℕ → Core) → SessionPage
+-- a page between honest ends, at two moments; or one across from a hostile domain, of which the honest one has this end, at each moment
+pub data RunPage : Type 0 where
+  OfHonest : Span → RunPage
+  OfHostile : (who : Role) (at : ℕ → Core) → RunPage
 
 -- those of a run: the control page of the domain behind each place, and the page of each of its agent's sessions
 pub record RunPages : Type 0 where
-  pub control : ℕ → Span
-  pub session : ℕ → ℕ → SessionPage
+  pub control : ℕ → RunPage
+  pub session : ℕ → ℕ → RunPage
 
 -- ---- an agent
 
 -- a caller is on the server's end; with a hostile domain only the gone word that the drain loaded need be that of the page
-abbrev pub CallFound : SessionPage → (turned : Turned) → (before now : CallerAt) → CallerTurns turned before now → Type 0
+abbrev pub CallFound : RunPage → (turned : Turned) → (before now : CallerAt) → CallerTurns turned before now → Type 0
 CallFound page Moved before now turn = Unit {0}
 CallFound (OfHonest span) Quiet before now turn = IsQuietBetween span.first span.last Server _ _ _ _ _ turn.2
 CallFound (OfHostile who at) Quiet before now turn = (n : ℕ) × IsGoneStill (at n) who (loads_of (standing_of turn.2.found.side) turn.2.left.side.trail)
 CallFound page Passed before now turn = Unit {0}
 
-abbrev pub ServingFound : SessionPage → (turned : Turned) → (before now : ServingAt) → ServingTurns turned before now → Type 0
+abbrev pub ServingFound : RunPage → (turned : Turned) → (before now : ServingAt) → ServingTurns turned before now → Type 0
 ServingFound page Moved before now turn = Unit {0}
 ServingFound (OfHonest span) Quiet before now turn = IsQuietBetween span.first span.last Client _ _ _ _ _ turn.2
 ServingFound (OfHostile who at) Quiet before now turn = (n : ℕ) × IsGoneStill (at n) who (loads_of (standing_of turn.2.found.side) turn.2.left.side.trail)
 ServingFound page Passed before now turn = Unit {0}
 
-abbrev pub SessionFound : SessionPage → (old new : Session) → SessionRests old new → Type 0
+abbrev pub SessionFound : RunPage → (old new : Session) → SessionRests old new → Type 0
 SessionFound page old new (CallerRests before now turned was is turn did) = CallFound page turned before now turn
 SessionFound page old new (ServingRests before now turned was is turn did) = ServingFound page turned before now turn
 SessionFound page old new (PageAwaited was is) = Unit {0}
@@ -74,9 +74,9 @@ HeardFound span (Some old) (Some new) still =
     DrainBetween span.first span.last Server still.nothing.greeted.end still.heard still.nothing.not_yet × WasSo span.first span.last (λ core. IsGoneStill core Server (loads_of (standing_of still.nothing.greeted.end.side) still.heard.side.trail))
 HeardFound span _ _ still = Unit {0}
 
-abbrev pub ChannelFound : Span → (old new : AgentState) → ChannelRests old new → Type 0
-ChannelFound span old new (IsUp was is still) = HeardFound span old.channel new.channel still
-ChannelFound span old new (WasOver how was is) = Unit {0}
+abbrev pub ChannelFound : RunPage → (old new : AgentState) → ChannelRests old new → Type 0
+ChannelFound (OfHonest span) old new (IsUp was is still) = HeardFound span old.channel new.channel still
+ChannelFound page old new rests = Unit {0}
 
 -- and why it said no more
 abbrev pub NoMoreFound : Span → (calls : ℕ) → (old new : AgentControl) → SaysNoMore calls old new → Type 0
@@ -84,9 +84,9 @@ NoMoreFound span calls old new (HasNotGreeted none same) = Unit {0}
 NoMoreFound span calls old new (WasNotGreeted none same) = Unit {0}
 NoMoreFound span calls old new (HasStopped says kept stops) = WasSo span.first span.last (λ core. StopsStill core calls old new stops)
 
-abbrev pub SaidFound : Span → (pages : ℕ) → (old new : Option AgentControl) → TurnsChannel pages old new → Type 0
-SaidFound span pages (Some old) (Some new) turns = NoMoreFound span (asked_at_most pages) turns.waiting new turns.says
-SaidFound span pages _ _ turns = Unit {0}
+abbrev pub SaidFound : RunPage → (pages : ℕ) → (old new : Option AgentControl) → TurnsChannel pages old new → Type 0
+SaidFound (OfHonest span) pages (Some old) (Some new) turns = NoMoreFound span (asked_at_most pages) turns.waiting new turns.says
+SaidFound page pages _ _ turns = Unit {0}
 
 -- it asked for no call
 abbrev pub AsksNone : Option AgentControl → Option AgentControl → Type 0
@@ -102,13 +102,16 @@ pub record AgentFound (pages : RunPages) (place : ℕ) (before now : AgentState)
 
 -- ---- the broker
 
-abbrev pub LineFound : Span → (old new : BrokerLine) → Rests old new → Type 0
-LineFound span old new rests = (up : is_shut (view new.end).state ≡ false) → LineBetween span.first span.last old new (rests.quiet up)
+-- of a domain that it hasn't dropped; of a hostile one only that the gone word which it loaded was that of the page
+abbrev pub LineFound : RunPage → (old new : BrokerLine) → Rests old new → Type 0
+LineFound (OfHonest span) old new rests = (up : is_shut (view new.end).state ≡ false) → LineBetween span.first span.last old new (rests.quiet up)
+LineFound (OfHostile who at) old new rests =
+    (up : is_shut (view new.end).state ≡ false) → (n : ℕ) × IsGoneStill (at n) who (loads_of (standing_of (rests.quiet up).hears.began.side) (rests.quiet up).heard.side.trail)
 
 -- of each domain, from the one behind this place on
-abbrev pub LinesFound : (ℕ → Span) → ℕ → (old new : List BrokerLine) → EachPair Rests old new → Type 0
-LinesFound spans place (x ∷ old) (y ∷ new) each = LineFound (spans place) x y each.0 × LinesFound spans (place + 1) old new each.1
-LinesFound spans place _ _ each = Unit {0}
+abbrev pub LinesFound : (ℕ → RunPage) → ℕ → (old new : List BrokerLine) → EachPair Rests old new → Type 0
+LinesFound pages place (x ∷ old) (y ∷ new) each = LineFound (pages place) x y each.0 × LinesFound pages (place + 1) old new each.1
+LinesFound pages place _ _ each = Unit {0}
 
 -- ---- any honest task: the broker is the first one, and behind it come the agents
 

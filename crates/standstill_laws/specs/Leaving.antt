@@ -11,7 +11,7 @@ use Rattle.domain_task.specs.declared.task.Task.TheVariants.{Agent}
 use Rattle.domain_task.specs.Working.{DoesNothing}
 use Rattle.standstill_laws.specs.Counting.{TurnMade, AreMade, work_of_all, NoStretchRests}
 use Rattle.standstill_laws.specs.Work.{IsHonestRun, run_work}
-use Rattle.standstill_laws.specs.Idle.{RunPages, IsIdle}
+use Rattle.standstill_laws.specs.Idle.{Span, OfHonest, RunPages, IsIdle}
 use Rattle.standstill_laws.specs.Stretches.{turns_of, SessionStays, IsFair, StandThroughout}
 
 -- ---- one agent
@@ -19,7 +19,9 @@ use Rattle.standstill_laws.specs.Stretches.{turns_of, SessionStays, IsFair, Stan
 -- so stands an agent in a stretch of turns that all did nothing: the broker's end of its control page was retired before; and across from each of its open sessions an agent made eight of the turns too, or lies an end that was retired before, or a hostile domain had left
 pub record AgentStands (pages : RunPages) (first now : ℕ → Task) (turns : List TurnMade) (place : ℕ) : Type 0 where
   pub idle : Each (IsIdle pages) turns
-  pub retired : (pages.control place).first.client.retired ≡ true
+  pub span : Span
+  pub control : pages.control place ≡ OfHonest span
+  pub retired : span.first.client.retired ≡ true
   pub task : AgentState
   pub is : now (place + 1) ≡ Agent task
   pub sessions : (i : ℕ) → SessionStays pages first now (λ peer. 8 ≤ turns_of (peer + 1) turns) place i (session_at task.sessions i)

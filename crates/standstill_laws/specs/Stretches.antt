@@ -108,10 +108,10 @@ pub data SessionStays (pages : RunPages) (first now : ℕ → Task) (IsPeer : �
 
 -- ---- a domain
 
--- the domain behind this place was dropped
-pub record WasDropped (broker : BrokerState) (place : ℕ) (line : BrokerLine) : Type 0 where
-  pub told : is_dropped broker.journal (place + 1) ≡ true
-  pub shut : is_shut (view line.end).state ≡ true
+-- the domain behind this place was dropped; or, a hostile one, it had left its control page before, and the journal has it as dropped if the broker dropped it
+pub data IsGone (pages : RunPages) (broker : BrokerState) (place : ℕ) (line : BrokerLine) : Type 0 where
+  WasDropped : is_dropped broker.journal (place + 1) ≡ true → is_shut (view line.end).state ≡ true → IsGone pages broker place line
+  HasLeft : (at : ℕ → Core) → pages.control place ≡ OfHostile Client at → ((n : ℕ) → PeerHasLeft (at n) Client) → (is_shut (view line.end).state ≡ true → is_dropped broker.journal (place + 1) ≡ true) → IsGone pages broker place line
 
 -- a place of a run's agents whose domain is honest
 abbrev pub IsHonestAgent : Domains → (ℕ → Bool) → ℕ → Type 0
@@ -120,14 +120,16 @@ IsHonestAgent hub honest place = (place < count_of hub) × (honest (place + 1) �
 -- the domain behind this place, of which the broker keeps this between two of its turns in a stretch, after the second of which it is `then`
 pub record DomainStays (honest : ℕ → Bool) (pages : RunPages) (first now last : ℕ → Task) (broker then : BrokerState) (said : ℕ → List Message) (place : ℕ) (line : BrokerLine) : Type 0 where
   -- the ends of its control page at the first moment and at the last, and at one between the broker's two turns
-  pub moments : AreMoments (pages.control place).first (pages.control place).last
-  pub begins_open : (pages.control place).first.client.state ≡ Open
-  pub agent_first : HoldsControl (first (place + 1)) (pages.control place).first.server
-  pub broker_first : HoldsLine (first 0) place (pages.control place).first.client
-  pub agent_last : HoldsControl (last (place + 1)) (pages.control place).last.server
-  pub broker_last : HoldsLine (last 0) place (pages.control place).last.client
+  pub span : Span
+  pub control : pages.control place ≡ OfHonest span
+  pub moments : AreMoments span.first span.last
+  pub begins_open : span.first.client.state ≡ Open
+  pub agent_first : HoldsControl (first (place + 1)) span.first.server
+  pub broker_first : HoldsLine (first 0) place span.first.client
+  pub agent_last : HoldsControl (last (place + 1)) span.last.server
+  pub broker_last : HoldsLine (last 0) place span.last.client
   pub core : Core
-  pub between : IsBetween (pages.control place).first (pages.control place).last core
+  pub between : IsBetween span.first span.last core
   -- it isn't dropped, and both have greeted
   pub up : is_shut (view line.end).state ≡ false
   pub greeted : line.greeted ≡ true
@@ -171,7 +173,7 @@ pub record StretchStands (honest : ℕ → Bool) (pages : RunPages) (first now l
   pub stands : StandsAfter (own.Again broker)
   pub lines : length broker.lines ≡ count_of broker.hub
   pub grown : HasGrown broker.hub honest broker.journal
-  pub domains : (place : ℕ) (line : BrokerLine) → IsAt broker.lines place line → WasDropped broker place line ⊎ ((honest (place + 1) ≡ true) × DomainStays honest pages first now last broker then stands.0.said place line)
+  pub domains : (place : ℕ) (line : BrokerLine) → IsAt broker.lines place line → IsGone pages broker place line ⊎ ((honest (place + 1) ≡ true) × DomainStays honest pages first now last broker then stands.0.said place line)
 
 -- before that turn the broker and the agent of each honest domain made one, and eight of all the turns are those of each of these agents
 pub record StretchRests (honest : ℕ → Bool) (pages : RunPages) (first now last : ℕ → Task) (turns : List TurnMade) (next : TurnMade) (rest : List TurnMade) : Type 0 where

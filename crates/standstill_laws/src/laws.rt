@@ -231,7 +231,7 @@ pub fn no_run_lasts()
 
 /// There is no stretch of turns of all tasks that did nothing, of which eight are those of each honest agent, with a turn of
 /// the broker's before which it and each of these made one, if the broker went on then. What the calls of these turns found
-/// was so at moments of their pages.
+/// was so at moments of their pages. A hostile domain was dropped before, or had left its control page.
 pub fn no_stretch_lasts()
     ensures { NoStretchLasts }
 {}
