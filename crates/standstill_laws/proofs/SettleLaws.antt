@@ -8,7 +8,7 @@ use Rattle.std.proofs.lemmas.List.{append-nil}
 use Rattle.call_broker.specs.declared.event.Event.{Event}
 use Rattle.call_broker.specs.declared.event.Event.TheVariants.{Trigger, Terminated, Dropped}
 use Rattle.call_broker.specs.declared.decision.Decision.{Decision}
-use Rattle.call_broker.specs.declared.decision.Decision.TheVariants.{Accepted, Ended, PassedOver}
+use Rattle.call_broker.specs.declared.decision.Decision.TheVariants.{Accepted, Refused, Ended, PassedOver}
 use Rattle.call_broker.specs.declared.decision.Entry.{Entry}
 use Rattle.call_broker.specs.Domains.{Domains, is_domain, is_odd}
 use Rattle.call_broker.specs.Pair.{Pair, PairState, Ordered, Alone, has, is_pair, by_port, pair_of, belongs, decides, settles, step, state_after, decision}
