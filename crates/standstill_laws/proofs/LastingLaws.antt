@@ -1,10 +1,12 @@
 -- Where all that a run's tasks found in turns that did nothing is put together, the broker is done.
 use Rattle.std.proofs.Common.{◌≡◌, ◌⊎◌, ℕ, ◌+◌, Bool, true, false, List, refl, sym, ◌∙◌, subst, arith, inl, inr}
+use Rattle.vchan_rule.specs.Seated.{view}
 use Rattle.call_broker.specs.Journal.{is_dropped}
 use Rattle.agent_slots.specs.Sessions.{Session, is_open, session_at}
 use Rattle.broker_task.specs.declared.outbox.Letter.{Letter}
 use Rattle.broker_task.specs.Given.{BrokerState}
 use Rattle.broker_task.specs.Letters.{AreHeld}
+use Rattle.broker_task.specs.Lines.{is_shut}
 use Rattle.broker_task.specs.Moving.{all_held}
 use Rattle.standstill_laws.specs.Letters.{AreAtRest}
 use Rattle.standstill_laws.specs.Standstill.{IsShut as StaysShut, DomainStandsStill}
@@ -37,21 +39,22 @@ at_rest honest was now then r place line there up =
       still = tt;
     }
 
-stands_still_so : (honest : ℕ → Bool) (was now then : BrokerState) → (r : RunLasts honest was now then) → (place : ℕ) → DomainLasts was now then r.stands.0.said r.lines place → DomainStandsStill now.hub now.awaited now.journal r.stands.0.said now.lines (at_rest honest was now then r) place
+stands_still_so : (honest : ℕ → Bool) (was now then : BrokerState) → (r : RunLasts honest was now then) → (place : ℕ) → (d : DomainLasts was now then r.stands.0.said r.lines place) → is_shut (view d.line.end).state ≡ false
+    → DomainStandsStill now.hub now.awaited now.journal r.stands.0.said now.lines (at_rest honest was now then r) place
 unfolding at_rest
-stands_still_so honest was now then r place d =
-    let l = r.lines place d.line d.there d.up in
-    let a = d.agent in
+stands_still_so honest was now then r place d up =
+    let l = r.lines place d.line d.there up in
+    let a = d.agent up in
     record {
       line = d.line;
       there = d.there;
-      up = d.up;
+      up = up;
       port = d.port;
       port_is = d.port_is;
       own = d.own;
       attended = d.attended;
       heard = d.heard;
-      talks = d.talks;
+      talks = d.talks up;
       task = d.task;
       domain = d.domain;
       count = d.count;
@@ -81,4 +84,9 @@ no_run_lasts_lem honest was now then r =
     by_domain : (place : ℕ) → (is_dropped now.journal (place + 1) ≡ true) ⊎ ((honest (place + 1) ≡ true) × DomainLasts was now then r.stands.0.said r.lines place)
         → (is_dropped now.journal (place + 1) ≡ true) ⊎ ((honest (place + 1) ≡ true) × DomainStandsStill now.hub now.awaited now.journal r.stands.0.said now.lines (at_rest honest was now then r) place)
     by_domain place (inl dropped) = inl dropped
-    by_domain place (inr lasts) = inr (lasts.0, stands_still_so honest was now then r place lasts.1)
+    by_domain place (inr lasts) = by_shut (is_shut (view lasts.1.line.end).state) refl
+      where
+        by_shut : (b : Bool) → is_shut (view lasts.1.line.end).state ≡ b
+            → (is_dropped now.journal (place + 1) ≡ true) ⊎ ((honest (place + 1) ≡ true) × DomainStandsStill now.hub now.awaited now.journal r.stands.0.said now.lines (at_rest honest was now then r) place)
+        by_shut true is = inl (r.stands.4 place lasts.1.line lasts.1.there ∙ is)
+        by_shut false is = inr (lasts.0, stands_still_so honest was now then r place lasts.1 is)

@@ -1,6 +1,7 @@
 -- A stretch of turns that did nothing tells all by which a run would be over.
 use Rattle.std.proofs.Common.{◌≡◌, ◌≢◌, ◌⊎◌, ℕ, ◌+◌, ◌<◌, ◌≤◌, Bool, true, false, List, [], ◌∷◌, ◌++◌, Option, Some, None, refl, sym, ap, ◌∙◌, subst, arith, inl, inr}
 use Rattle.std.specs.Prelude.{IsSome}
+use Rattle.std.proofs.Math.Bool.{Bool-set}
 use Rattle.std.proofs.lemmas.Option.{none-some}
 use Rattle.std.specs.List.{AllZip as EachPair, AllByRecursion as Each}
 use Rattle.list_laws.proofs.Each.{each_front, each_back}
@@ -11,6 +12,7 @@ use Rattle.vchan_protocol.specs.History.Core.{standing_of}
 use Rattle.vchan_protocol.specs.declared.call.EndState.{EndState}
 use Rattle.vchan_protocol.specs.declared.call.EndState.TheVariants.{Open, Shut}
 use Rattle.vchan_rule.specs.Seated.{SeatedEnd, view}
+use Rattle.control_port.specs.declared.talk.Talker.TheVariants.{Broker as OfBroker}
 use Rattle.vchan_lifecycle.specs.Lifecycle.{FindsNotYet}
 use Rattle.call_broker.specs.Domains.{count_of}
 use Rattle.call_broker.specs.Journal.{is_dropped}
@@ -26,10 +28,12 @@ use Rattle.broker_task.specs.Given.{BrokerState}
 use Rattle.broker_task.specs.Letters.{IsAt}
 use Rattle.broker_task.specs.Lines.{is_shut}
 use Rattle.broker_task.specs.Moving.{BrokerLine}
+use Rattle.broker_task.specs.Holding.{ShutAreDropped}
 use Rattle.domain_task.specs.Turning.{AgentTurns}
 use Rattle.domain_task.specs.declared.task.Task.{Task}
 use Rattle.domain_task.specs.declared.task.Task.TheVariants.{Agent, Broker, Hostile}
 use Rattle.domain_task.specs.Working.{IsStill, ChannelRests, IsUp, WasOver, AgentRests, Rests}
+use Rattle.standstill_laws.specs.Control.{Talks}
 use Rattle.standstill_laws.specs.Saying.{StopsStill}
 use Rattle.standstill_laws.specs.Sessions.{IsGoneStill}
 use Rattle.standstill_laws.specs.Counting.{TurnMade, tasks_after, AreMade, NoneIsMade, OneIsMade}
@@ -39,7 +43,7 @@ use Rattle.standstill_laws.specs.Moments.{WasSo}
 use Rattle.standstill_laws.specs.Pace.{CallRests, ServingRests, BothRest}
 use Rattle.standstill_laws.specs.Resting.{DrainBetween}
 use Rattle.standstill_laws.specs.Idle.{Span, RunPage, OfHonest, RunPages, HeardFound, ChannelFound, NoMoreFound, SaidFound, AsksNone, AgentFound, LinesFound, IsIdle, AgentIsIdle, BrokerIsIdle}
-use Rattle.standstill_laws.specs.Lasting.{IsShut as StaysShut, LineLasts, DomainLasts}
+use Rattle.standstill_laws.specs.Lasting.{IsShut as StaysShut, AgentLasts, LineLasts, DomainLasts}
 use Rattle.standstill_laws.specs.Stretches.{turns_of, CallerStays, ServingStays, SessionStays, IsShut, AsCaller, AsServing, CallsAlone, ServesAlone, IsLeftAlone, IsHonestAgent, IsGone, WasDropped, HasLeft, DomainStays, StretchRests, NoStretchLasts}
 use Rattle.standstill_laws.proofs.StretchLaws.{same_agent, same_broker, stretches_rest_lem, control_pages_rest_lem}
 use Rattle.standstill_laws.proofs.PaceLaws.{last_between, no_session_rests_lem}
@@ -228,20 +232,12 @@ within : (honest : ℕ → Bool) (pages : RunPages) (first now last : ℕ → Ta
 within honest pages first now last turns next rest r place line there = omega (arith, there.within, r.so.lines)
 
 -- a domain that is gone was dropped: the broker's turn would have dropped it
-gone_shut : (pages : RunPages) (broker : BrokerState) → TurnTo pages broker → (place : ℕ) (line : BrokerLine) → IsAt broker.lines place line → IsGone pages broker place line → ¬ (is_shut (view line.end).state ≡ false)
-gone_shut pages broker to place line there (WasDropped told shut) up = let bad : true ≡ false = sym shut ∙ up in cc
-gone_shut pages broker to place line there (HasLeft at page left told) up =
+gone_shut : (pages : RunPages) (broker : BrokerState) → TurnTo pages broker → ShutAreDropped broker.journal broker.lines → (place : ℕ) (line : BrokerLine) → IsAt broker.lines place line → IsGone pages broker place → ¬ (is_shut (view line.end).state ≡ false)
+gone_shut pages broker to shut place line there (WasDropped told) up = let bad : true ≡ false = sym told ∙ shut place line there ∙ up in cc
+gone_shut pages broker to shut place line there (HasLeft at page left) up =
     let was = subst (λ (p : RunPage). LineWas p to.before.lines place line) page (line_was pages.control to.before.lines broker.lines to.rests to.found place line there) in
     let found = was.found up in
     left found.0 (heard_here (at found.0) was.old line (was.rests.quiet up) found.1)
-
-gone_told : (pages : RunPages) (broker : BrokerState) → TurnTo pages broker → (place : ℕ) (line : BrokerLine) → IsAt broker.lines place line → IsGone pages broker place line → is_dropped broker.journal (place + 1) ≡ true
-gone_told pages broker to place line there (WasDropped told shut) = told
-gone_told pages broker to place line there (HasLeft at page left told) = by_shut (is_shut (view line.end).state) refl
-  where
-    by_shut : (b : Bool) → is_shut (view line.end).state ≡ b → is_dropped broker.journal (place + 1) ≡ true
-    by_shut true is = told is
-    by_shut false is = absurd (gone_shut pages broker to place line there (HasLeft at page left told) is)
 
 other_of : {A B : Type 0} → ¬ A → A ⊎ B → B
 other_of none (inl a) = absurd (none a)
@@ -254,12 +250,7 @@ Stays honest pages first now last turns next rest r place line = (honest (place 
 undropped : (honest : ℕ → Bool) (pages : RunPages) (first now last : ℕ → Task) (turns : List TurnMade) (next : TurnMade) (rest : List TurnMade) → (r : StretchRests honest pages first now last turns next rest) → (place : ℕ) (line : BrokerLine)
     → IsAt r.so.broker.lines place line → is_shut (view line.end).state ≡ false → Stays honest pages first now last turns next rest r place line
 undropped honest pages first now last turns next rest r place line there up =
-    other_of (λ gone. gone_shut pages r.so.broker (turn_to honest pages first now last turns next rest r) place line there gone up) (r.so.domains place line there)
-
-dropped_or_up : (honest : ℕ → Bool) (pages : RunPages) (first now last : ℕ → Task) (turns : List TurnMade) (next : TurnMade) (rest : List TurnMade) → (r : StretchRests honest pages first now last turns next rest) → (place : ℕ) (line : BrokerLine) → IsAt r.so.broker.lines place line
-    → IsGone pages r.so.broker place line ⊎ Stays honest pages first now last turns next rest r place line → (is_dropped r.so.broker.journal (place + 1) ≡ true) ⊎ (is_shut (view line.end).state ≡ false)
-dropped_or_up honest pages first now last turns next rest r place line there (inl gone) = inl (gone_told pages r.so.broker (turn_to honest pages first now last turns next rest r) place line there gone)
-dropped_or_up honest pages first now last turns next rest r place line there (inr stays) = inr stays.1.up
+    other_of (λ gone. gone_shut pages r.so.broker (turn_to honest pages first now last turns next rest r) r.so.stands.4 place line there gone up) (r.so.domains place line there)
 
 line_lasts : (honest : ℕ → Bool) (pages : RunPages) (first now last : ℕ → Task) (turns : List TurnMade) (next : TurnMade) (rest : List TurnMade) → (r : StretchRests honest pages first now last turns next rest) → (place : ℕ) (line : BrokerLine) → IsAt r.so.broker.lines place line → is_shut (view line.end).state ≡ false
     → LineLasts (turn_to honest pages first now last turns next rest r).before.lines r.so.then.lines place line
@@ -308,6 +299,7 @@ unfolding line_lasts
 domain_lasts honest pages first now last turns next rest r place line there up =
     let both = undropped honest pages first now last turns next rest r place line there up in
     let d = both.1 in
+    let lasts : (u : is_shut (view line.end).state ≡ false) → LineLasts (turn_to honest pages first now last turns next rest r).before.lines r.so.then.lines place line = line_lasts honest pages first now last turns next rest r place line there in
     let mine : IsHonestAgent r.so.broker.hub honest place = (within honest pages first now last turns next rest r place line there, both.0) in
     let turned = agent_turn pages (count_of r.so.broker.hub + 1) first now turns r.made (each_front (IsIdle pages) turns (next ∷ rest) r.so.idle) place d.task (r.agents_turned place mine) d.task_is in
     let stops = agent_stops d.span d.task.pages turned.before.channel d.task.channel (turned.turns.1.2 d.over) (subst (λ (p : RunPage). SaidFound p d.task.pages turned.before.channel d.task.channel (turned.turns.1.2 d.over)) d.control (turned.found.said d.over)) turned.found.asks_none d.channel d.channel_is d.agent_greeted d.agent_version in (
@@ -315,17 +307,16 @@ domain_lasts honest pages first now last turns next rest r place line there up =
       record {
         line = line;
         there = there;
-        up = up;
         port = d.port;
         port_is = d.port_is;
         own = d.own;
         attended = d.attended;
         heard = d.heard;
-        talks = d.talks;
+        talks = λ is. subst (λ u. Talks (lasts u).core Client OfBroker d.port (r.so.stands.0.said (place + 1)) d.heard) (Bool-set (is_shut (view line.end).state) false up is) d.talks;
         task = d.task;
         domain = d.domain;
         count = d.count;
-        agent = record {
+        agent = λ is. subst (λ u. AgentLasts r.so.broker.hub r.so.broker.journal (lasts u).rests.first (lasts u).rests.last (lasts u).core d.task) (Bool-set (is_shut (view line.end).state) false up is) (record {
           tells = d.tells;
           channel = d.channel;
           channel_is = d.channel_is;
@@ -342,7 +333,7 @@ domain_lasts honest pages first now last turns next rest r place line there up =
           none_asked = stops.none_asked;
           sessions = λ i.
               StaysShut (session_shut pages (count_of r.so.broker.hub + 1) first last (turns ++ next ∷ rest) (whole honest pages first now last turns next rest r) r.so.idle (IsHonestAgent r.so.broker.hub honest) r.agents_turned_on place i (session_at d.task.sessions i) (r.agents_turned_on place mine) (d.sessions i));
-        };
+        });
       },
     )
 
@@ -352,12 +343,12 @@ no_stretch_lasts_lem honest pages first now last turns next rest r =
   where
     by_place : (place : ℕ) → place < count_of r.so.broker.hub
         → (is_dropped r.so.broker.journal (place + 1) ≡ true) ⊎ ((honest (place + 1) ≡ true) × DomainLasts (turn_to honest pages first now last turns next rest r).before r.so.broker r.so.then r.so.stands.0.said (line_lasts honest pages first now last turns next rest r) place)
-    by_place place less = by_line (dropped_or_up honest pages first now last turns next rest r place l.0 l.1 (r.so.domains place l.0 l.1))
+    by_place place less = by_shut (is_shut (view l.0.end).state) refl
       where
         l : (line : BrokerLine) × IsAt r.so.broker.lines place line
         l = line_at r.so.broker.lines place (omega (arith, less, r.so.lines))
 
-        by_line : (is_dropped r.so.broker.journal (place + 1) ≡ true) ⊎ (is_shut (view l.0.end).state ≡ false)
+        by_shut : (b : Bool) → is_shut (view l.0.end).state ≡ b
             → (is_dropped r.so.broker.journal (place + 1) ≡ true) ⊎ ((honest (place + 1) ≡ true) × DomainLasts (turn_to honest pages first now last turns next rest r).before r.so.broker r.so.then r.so.stands.0.said (line_lasts honest pages first now last turns next rest r) place)
-        by_line (inl dropped) = inl dropped
-        by_line (inr up) = inr (domain_lasts honest pages first now last turns next rest r place l.0 l.1 up)
+        by_shut true is = inl (r.so.stands.4 place l.0 l.1 ∙ is)
+        by_shut false is = inr (domain_lasts honest pages first now last turns next rest r place l.0 l.1 is)

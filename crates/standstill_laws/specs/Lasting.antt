@@ -74,21 +74,20 @@ pub record LineLasts (before after : List BrokerLine) (place : ℕ) (line : Brok
   pub greeted : line.greeted ≡ true
   pub version : IsSome line.version
 
--- the domain behind this place: the port of what the broker keeps of it, and its agent
+-- the domain behind this place: the port of what the broker keeps of it, and its agent, on its control page, whose end isn't shut unless the domain was dropped
 pub record DomainLasts (was now then : BrokerState) (said : ℕ → List Message) (lines : (place : ℕ) (line : BrokerLine) → IsAt now.lines place line → is_shut (view line.end).state ≡ false → LineLasts was.lines then.lines place line) (place : ℕ) : Type 0 where
   pub line : BrokerLine
   pub there : IsAt now.lines place line
-  pub up : is_shut (view line.end).state ≡ false
   pub port : PortState
   pub port_is : IsPortOf line port
   pub own : port.own ≡ broker_version
   pub attended : IsAttended now.hub now.journal said (place + 1) (record { view = view port.end; gone = port.end.side.notes.gone })
   pub heard : List Message
-  pub talks : Talks (lines place line there up).core Client Broker port (said (place + 1)) heard
+  pub talks : (up : is_shut (view line.end).state ≡ false) → Talks (lines place line there up).core Client Broker port (said (place + 1)) heard
   pub task : AgentState
   pub domain : task.plan.domain ≡ place + 1
   pub count : length task.plan.calls ≡ awaited_of now.awaited (place + 1)
-  pub agent : AgentLasts now.hub now.journal (lines place line there up).rests.first (lines place line there up).rests.last (lines place line there up).core task
+  pub agent : (up : is_shut (view line.end).state ≡ false) → AgentLasts now.hub now.journal (lines place line there up).rests.first (lines place line there up).rests.last (lines place line there up).core task
 
 -- the broker went on after a turn, and that turn and its next one did nothing; between the two each domain was dropped, or is honest and stood so
 pub record RunLasts (honest : ℕ → Bool) (was now then : BrokerState) : Type 0 where

@@ -25,7 +25,6 @@ use Rattle.agent_task.specs.State.{AgentState, TellsSoFar}
 use Rattle.agent_task.specs.Moving.{asked_at_most}
 use Rattle.broker_task.specs.Given.{BrokerState}
 use Rattle.broker_task.specs.Letters.{IsAt}
-use Rattle.broker_task.specs.Lines.{is_shut}
 use Rattle.broker_task.specs.Moving.{BrokerLine}
 use Rattle.broker_task.specs.Standing.{IsAttended}
 use Rattle.broker_task.specs.Turns.{StandsAfter}
@@ -108,10 +107,10 @@ pub data SessionStays (pages : RunPages) (first now : ℕ → Task) (IsPeer : �
 
 -- ---- a domain
 
--- the domain behind this place was dropped; or, a hostile one, it had left its control page before, and the journal has it as dropped if the broker dropped it
-pub data IsGone (pages : RunPages) (broker : BrokerState) (place : ℕ) (line : BrokerLine) : Type 0 where
-  WasDropped : is_dropped broker.journal (place + 1) ≡ true → is_shut (view line.end).state ≡ true → IsGone pages broker place line
-  HasLeft : (at : ℕ → Core) → pages.control place ≡ OfHostile Client at → ((n : ℕ) → PeerHasLeft (at n) Client) → (is_shut (view line.end).state ≡ true → is_dropped broker.journal (place + 1) ≡ true) → IsGone pages broker place line
+-- the domain behind this place was dropped; or, a hostile one, it had left its control page before
+pub data IsGone (pages : RunPages) (broker : BrokerState) (place : ℕ) : Type 0 where
+  WasDropped : is_dropped broker.journal (place + 1) ≡ true → IsGone pages broker place
+  HasLeft : (at : ℕ → Core) → pages.control place ≡ OfHostile Client at → ((n : ℕ) → PeerHasLeft (at n) Client) → IsGone pages broker place
 
 -- a place of a run's agents whose domain is honest
 abbrev pub IsHonestAgent : Domains → (ℕ → Bool) → ℕ → Type 0
@@ -130,8 +129,7 @@ pub record DomainStays (honest : ℕ → Bool) (pages : RunPages) (first now las
   pub broker_last : HoldsLine (last 0) place span.last.client
   pub core : Core
   pub between : IsBetween span.first span.last core
-  -- it isn't dropped, and both have greeted
-  pub up : is_shut (view line.end).state ≡ false
+  -- both have greeted
   pub greeted : line.greeted ≡ true
   pub version : IsSome line.version
   pub greets : (new : BrokerLine) → IsAt then.lines place new → IsSome new.version
@@ -173,7 +171,7 @@ pub record StretchStands (honest : ℕ → Bool) (pages : RunPages) (first now l
   pub stands : StandsAfter (own.Again broker)
   pub lines : length broker.lines ≡ count_of broker.hub
   pub grown : HasGrown broker.hub honest broker.journal
-  pub domains : (place : ℕ) (line : BrokerLine) → IsAt broker.lines place line → IsGone pages broker place line ⊎ ((honest (place + 1) ≡ true) × DomainStays honest pages first now last broker then stands.0.said place line)
+  pub domains : (place : ℕ) (line : BrokerLine) → IsAt broker.lines place line → IsGone pages broker place ⊎ ((honest (place + 1) ≡ true) × DomainStays honest pages first now last broker then stands.0.said place line)
 
 -- before that turn the broker and the agent of each honest domain made one, and eight of all the turns are those of each of these agents
 pub record StretchRests (honest : ℕ → Bool) (pages : RunPages) (first now last : ℕ → Task) (turns : List TurnMade) (next : TurnMade) (rest : List TurnMade) : Type 0 where
