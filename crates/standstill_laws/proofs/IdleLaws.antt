@@ -15,7 +15,7 @@ use Rattle.agent_slots.specs.Agreeing.{SessionStands}
 use Rattle.agent_task.specs.State.{AgentState, TellsSoFar}
 use Rattle.broker_task.specs.Given.{BrokerState}
 use Rattle.broker_task.specs.Letters.{IsAt}
-use Rattle.broker_task.specs.Moving.{BrokerLine}
+use Rattle.broker_task.specs.Moving.{BrokerLine, HasTurned}
 use Rattle.broker_task.proofs.Lists.{at_one}
 use Rattle.domain_task.specs.declared.task.Task.{Task}
 use Rattle.domain_task.specs.declared.task.Task.TheVariants.{Agent, Broker}
@@ -92,6 +92,7 @@ last_of_agent pages place last turn = by turn.made turn.idle turn.place_is turn.
 pub record LastOfBroker (pages : RunPages) (last : Task) : Type 0 where
   pub before : BrokerState
   pub now : BrokerState
+  pub turned : EachPair HasTurned before.lines now.lines
   pub rests : EachPair Rests before.lines now.lines
   pub found : LinesFound pages.control 0 before.lines now.lines rests
   pub is : last ≡ Broker now
@@ -101,7 +102,7 @@ last_of_broker pages last turn = by turn.made turn.idle turn.place_is turn.is
   where
     by : (made : TurnMade) → IsIdle pages made → made.place ≡ 0 → last ≡ made.now → LastOfBroker pages last
     by made (AgentIsIdle at before now turns works rests found) placed is = absurd (omega (arith, placed))
-    by made (BrokerIsIdle before now turns works rests found) placed is = record { before = before; now = now; rests = rests; found = found; is = is }
+    by made (BrokerIsIdle before now turns works rests found) placed is = record { before = before; now = now; turned = turns.1; rests = rests; found = found; is = is }
 
 -- ---- a session of an agent, turn by turn
 

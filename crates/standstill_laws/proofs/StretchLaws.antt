@@ -324,6 +324,11 @@ broker_rested task task' place before now rests old new =
       ap (λ (s : Side). s.state) (sym new.end) ∙ same.2 ∙ ap (λ (s : Side). s.state) old.end,
     )
 
+-- the broker's end of a control page had the state before that it has after turns that did nothing
+pub line_state : (task : Task) (place : ℕ) (side : Side) (broker : BrokerState) (line : BrokerLine) → HoldsLine task place side → RestsOn task (Broker broker) → IsAt broker.lines place line → line.end.side.state ≡ side.state
+line_state task place side broker line holds rests there =
+    (broker_rested task (Broker broker) place side line.end.side rests (line_holder task place side holds) (record { broker = broker; is = refl; line = line; there = there; end = refl })).1
+
 pub control_pages_rest_lem : ControlPagesRest
 control_pages_rest_lem before now agent agent' broker broker' place moments hears says up old_agent old_line new_agent new_line =
     let a = control_holder agent before.server old_agent in

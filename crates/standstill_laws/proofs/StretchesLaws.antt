@@ -1,5 +1,5 @@
 -- A stretch of turns that did nothing tells all by which a run would be over.
-use Rattle.std.proofs.Common.{◌≡◌, ◌≢◌, ◌⊎◌, ℕ, ◌+◌, ◌<◌, ◌≤◌, Bool, true, false, List, [], ◌∷◌, ◌++◌, Option, Some, None, refl, sym, ap, ◌∙◌, subst, arith, inl, inr}
+use Rattle.std.proofs.Common.{◌≡◌, ◌≢◌, ◌⊎◌, ℕ, ◌+◌, ◌<◌, ◌≤◌, zero, suc, Bool, true, false, List, [], ◌∷◌, ◌++◌, Option, Some, None, refl, sym, ap, ◌∙◌, subst, arith, inl, inr}
 use Rattle.std.specs.Prelude.{IsSome}
 use Rattle.std.proofs.Math.Bool.{Bool-set}
 use Rattle.std.proofs.lemmas.Option.{none-some}
@@ -10,7 +10,7 @@ use Rattle.vchan_protocol.specs.declared.side.Side.{Side}
 use Rattle.vchan_protocol.specs.Answering.Loads.{loads_of}
 use Rattle.vchan_protocol.specs.History.Core.{standing_of}
 use Rattle.vchan_protocol.specs.declared.call.EndState.{EndState}
-use Rattle.vchan_protocol.specs.declared.call.EndState.TheVariants.{Open, Shut}
+use Rattle.vchan_protocol.specs.declared.call.EndState.TheVariants.{Fresh, Open, Shut}
 use Rattle.vchan_rule.specs.Seated.{SeatedEnd, view}
 use Rattle.control_port.specs.declared.talk.Talker.TheVariants.{Broker as OfBroker}
 use Rattle.vchan_lifecycle.specs.Lifecycle.{FindsNotYet}
@@ -26,8 +26,8 @@ use Rattle.agent_task.specs.State.{AgentState}
 use Rattle.agent_task.specs.Moving.{SaysNoMore, HasNotGreeted, WasNotGreeted, HasStopped, TurnsChannel, asked_at_most}
 use Rattle.broker_task.specs.Given.{BrokerState}
 use Rattle.broker_task.specs.Letters.{IsAt}
-use Rattle.broker_task.specs.Lines.{is_shut}
-use Rattle.broker_task.specs.Moving.{BrokerLine}
+use Rattle.broker_task.specs.Lines.{is_begun, is_shut}
+use Rattle.broker_task.specs.Moving.{BrokerLine, HasTurned}
 use Rattle.broker_task.specs.Holding.{ShutAreDropped}
 use Rattle.domain_task.specs.Turning.{AgentTurns}
 use Rattle.domain_task.specs.declared.task.Task.{Task}
@@ -38,14 +38,14 @@ use Rattle.standstill_laws.specs.Saying.{StopsStill}
 use Rattle.standstill_laws.specs.Sessions.{IsGoneStill}
 use Rattle.standstill_laws.specs.Counting.{TurnMade, tasks_after, AreMade, NoneIsMade, OneIsMade}
 use Rattle.standstill_laws.specs.Keeping.{PageRested}
-use Rattle.standstill_laws.specs.Stretch.{AreMoments, HoldsControl}
+use Rattle.standstill_laws.specs.Stretch.{RestsOn, AreMoments, HoldsControl}
 use Rattle.standstill_laws.specs.Moments.{WasSo}
 use Rattle.standstill_laws.specs.Pace.{CallRests, ServingRests, BothRest}
 use Rattle.standstill_laws.specs.Resting.{DrainBetween}
 use Rattle.standstill_laws.specs.Idle.{Span, RunPage, OfHonest, RunPages, HeardFound, ChannelFound, NoMoreFound, SaidFound, AsksNone, AgentFound, LinesFound, IsIdle, AgentIsIdle, BrokerIsIdle}
 use Rattle.standstill_laws.specs.Lasting.{IsShut as StaysShut, AgentLasts, LineLasts, DomainLasts}
 use Rattle.standstill_laws.specs.Stretches.{turns_of, CallerStays, ServingStays, SessionStays, IsShut, AsCaller, AsServing, CallsAlone, ServesAlone, IsLeftAlone, IsHonestAgent, IsGone, WasDropped, HasLeft, DomainStays, StretchRests, NoStretchLasts}
-use Rattle.standstill_laws.proofs.StretchLaws.{same_agent, same_broker, stretches_rest_lem, control_pages_rest_lem}
+use Rattle.standstill_laws.proofs.StretchLaws.{same_agent, same_broker, line_state, stretches_rest_lem, control_pages_rest_lem}
 use Rattle.standstill_laws.proofs.PaceLaws.{last_between, no_session_rests_lem}
 use Rattle.standstill_laws.proofs.IdleLaws.{all_nothing, last_turn, last_of_agent, last_of_broker, CallsOn, calls_on, ServesOnTo, serves_on, few_alone, LineWas, LineWill, line_was, line_will, line_at}
 use Rattle.standstill_laws.proofs.HostileLaws.{heard_here}
@@ -121,6 +121,7 @@ whole honest pages first now last turns next rest r = made_both (count_of r.so.b
 
 record TurnTo (pages : RunPages) (now : BrokerState) : Type 0 where
   before : BrokerState
+  turned : EachPair HasTurned before.lines now.lines
   rests : EachPair Rests before.lines now.lines
   found : LinesFound pages.control 0 before.lines now.lines rests
 
@@ -137,7 +138,7 @@ pub record AgentTurn (pages : RunPages) (place : ℕ) (now : AgentState) : Type 
 turn_to : (honest : ℕ → Bool) (pages : RunPages) (first now last : ℕ → Task) (turns : List TurnMade) (next : TurnMade) (rest : List TurnMade) → (r : StretchRests honest pages first now last turns next rest) → TurnTo pages r.so.broker
 turn_to honest pages first now last turns next rest r =
     let turn = last_of_broker pages (now 0) (last_turn pages (count_of r.so.broker.hub + 1) first now turns r.made (each_front (IsIdle pages) turns (next ∷ rest) r.so.idle) 0 r.broker_turned) in
-    subst (λ (b : BrokerState). TurnTo pages b) (same_broker turn.now r.so.broker (sym turn.is ∙ r.so.is)) (record { before = turn.before; rests = turn.rests; found = turn.found })
+    subst (λ (b : BrokerState). TurnTo pages b) (same_broker turn.now r.so.broker (sym turn.is ∙ r.so.is)) (record { before = turn.before; turned = turn.turned; rests = turn.rests; found = turn.found })
 
 turn_of : (pages : RunPages) (broker then : BrokerState) (made : TurnMade) → IsIdle pages made → made.place ≡ 0 → made.before ≡ Broker broker → made.now ≡ Broker then → TurnFrom pages broker then
 turn_of pages broker then made (AgentIsIdle at before now turns works rests found) placed was is = absurd (omega (arith, placed))
@@ -212,12 +213,32 @@ session_shut pages many first now turns made idle IsPeer peers place i s long (I
 
 -- ---- a domain
 
+-- each end that the broker's turn left has begun, so one that isn't shut is open
+begun_at : (before after : List BrokerLine) (place : ℕ) (line : BrokerLine) → EachPair HasTurned before after → IsAt after place line → is_begun (view line.end).state ≡ true
+begun_at before [] place line each at = absurd (omega (arith, at.within))
+begun_at [] (y ∷ after) place line each at = absurd each
+begun_at (x ∷ before) (y ∷ after) zero line each at = subst (λ (l : BrokerLine). is_begun (view l.end).state ≡ true) (sym at.is) each.0.begun
+begun_at (x ∷ before) (y ∷ after) (suc place) line each at = begun_at before after place line each.1 (record { within = omega (arith, at.within); is = at.is })
+
+open_is : (state : EndState) → is_begun state ≡ true → is_shut state ≡ false → state ≡ Open
+open_is Fresh begun up = cc
+open_is Open begun up = refl
+open_is Shut begun up = cc
+
+-- and was at the first moment
+began_open : (honest : ℕ → Bool) (pages : RunPages) (first now last : ℕ → Task) (turns : List TurnMade) (next : TurnMade) (rest : List TurnMade) → (r : StretchRests honest pages first now last turns next rest) → (place : ℕ) (line : BrokerLine) → IsAt r.so.broker.lines place line → is_shut (view line.end).state ≡ false
+    → (d : DomainStays honest pages first now last r.so.broker r.so.then r.so.stands.0.said place line) → d.span.first.client.state ≡ Open
+began_open honest pages first now last turns next rest r place line there up d =
+    let to = turn_to honest pages first now last turns next rest r in
+    let rests = stretches_rest_lem (count_of r.so.broker.hub + 1) first now turns r.made (all_nothing pages turns (each_front (IsIdle pages) turns (next ∷ rest) r.so.idle)) 0 in
+    sym (line_state (first 0) place d.span.first.client r.so.broker line d.broker_first (subst (λ (t : Task). RestsOn (first 0) t) r.so.is rests) there) ∙ open_is (view line.end).state (begun_at to.before.lines r.so.broker.lines place line to.turned there) up
+
 control_rested : (honest : ℕ → Bool) (pages : RunPages) (first now last : ℕ → Task) (turns : List TurnMade) (next : TurnMade) (rest : List TurnMade) → (r : StretchRests honest pages first now last turns next rest) → (place : ℕ) (line : BrokerLine) → (d : DomainStays honest pages first now last r.so.broker r.so.then r.so.stands.0.said place line)
-    → PageRested d.span.first d.span.last
-control_rested honest pages first now last turns next rest r place line d =
+    → d.span.first.client.state ≡ Open → PageRested d.span.first d.span.last
+control_rested honest pages first now last turns next rest r place line d began =
     let all = turns ++ next ∷ rest in
     let rests = stretches_rest_lem (count_of r.so.broker.hub + 1) first last all (whole honest pages first now last turns next rest r) (all_nothing pages all r.so.idle) in
-    control_pages_rest_lem d.span.first d.span.last (first (place + 1)) (last (place + 1)) (first 0) (last 0) place d.moments (rests (place + 1)) (rests 0) d.begins_open d.agent_first d.broker_first d.agent_last d.broker_last
+    control_pages_rest_lem d.span.first d.span.last (first (place + 1)) (last (place + 1)) (first 0) (last 0) place d.moments (rests (place + 1)) (rests 0) began d.agent_first d.broker_first d.agent_last d.broker_last
 
 -- the agent's end of a control page is open
 agent_open : (task : Task) (side : Side) → HoldsControl task side → side.state ≡ Open
@@ -261,7 +282,8 @@ line_lasts honest pages first now last turns next rest r place line there up =
     let from = turn_from honest pages first now last turns next rest r in
     let was = subst (λ (p : RunPage). LineWas p to.before.lines place line) d.control (line_was pages.control to.before.lines r.so.broker.lines to.rests to.found place line there) in
     let will = subst (λ (p : RunPage). LineWill p r.so.then.lines place line) d.control (line_will pages.control r.so.broker.lines r.so.then.lines from.rests from.found place line there) in
-    let rested = control_rested honest pages first now last turns next rest r place line d in
+    let began = began_open honest pages first now last turns next rest r place line there up d in
+    let rested = control_rested honest pages first now last turns next rest r place line d began in
     let turned = agent_turn pages (count_of r.so.broker.hub + 1) first now turns r.made (each_front (IsIdle pages) turns (next ∷ rest) r.so.idle) place d.task (r.agents_turned place (within honest pages first now last turns next rest r place line there, both.0)) d.task_is in
     let drain = agent_drain d.span turned.before d.task turned.rests.channel (subst (λ (p : RunPage). ChannelFound p turned.before d.task turned.rests.channel) d.control turned.found.heard) d.over in
     let new_up : is_shut (view will.new.end).state ≡ false = will.rests.shut ∙ up in
@@ -279,7 +301,7 @@ line_lasts honest pages first now last turns next rest r place line there up =
         to_last = last_between d.span.first d.span.last d.moments rested;
         rested = rested;
         server_up = not_shut d.span.last.server.state (agent_open (last (place + 1)) d.span.last.server d.agent_last);
-        client_up = not_shut d.span.last.client.state ((rested.ends Client).state ∙ d.begins_open);
+        client_up = not_shut d.span.last.client.state ((rested.ends Client).state ∙ began);
         turn_found = was.found up;
         next_found = will.found new_up;
         began = drain.began;

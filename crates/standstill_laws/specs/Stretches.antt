@@ -5,7 +5,6 @@ use Rattle.std.specs.List.{count_by, AllByRecursion as Each}
 use Rattle.list_laws.specs.Lists.{AreDifferent}
 use Rattle.ring_words.specs.declared.page.Role.{Role}
 use Rattle.ring_words.specs.declared.page.Role.TheVariants.{Client}
-use Rattle.vchan_protocol.specs.declared.call.EndState.TheVariants.{Open}
 use Rattle.vchan_protocol.specs.History.Core.{Core}
 use Rattle.vchan_rule.specs.Seated.{view}
 use Rattle.qrexec_frame.specs.declared.message.Message.{Message}
@@ -122,7 +121,6 @@ pub record DomainStays (honest : ℕ → Bool) (pages : RunPages) (first now las
   pub span : Span
   pub control : pages.control place ≡ OfHonest span
   pub moments : AreMoments span.first span.last
-  pub begins_open : span.first.client.state ≡ Open
   pub agent_first : HoldsControl (first (place + 1)) span.first.server
   pub broker_first : HoldsLine (first 0) place span.first.client
   pub agent_last : HoldsControl (last (place + 1)) span.last.server
