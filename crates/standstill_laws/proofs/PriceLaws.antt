@@ -1,5 +1,5 @@
 -- What is said on all control channels costs no more than the calls of the domains do, whatever a message costs.
-use Rattle.std.proofs.Common.{◌≡◌, ℕ, ◌+◌, ◌<◌, ◌≤◌, ◌==◌, Bool, true, false, List, [], ◌∷◌, ◌++◌, length, map, take, drop, if◌then◌else◌, Option, Some, None, refl, sym, ◌∙◌, subst, arith, lit<}
+use Rattle.std.proofs.Common.{◌≡◌, ℕ, ◌+◌, ◌<◌, ◌≤◌, ◌==◌, Bool, true, false, List, [], ◌∷◌, ◌++◌, length, map, drop, if◌then◌else◌, Option, Some, None, refl, sym, ◌∙◌, subst, arith, lit<}
 use Rattle.std.specs.Prelude.{◌&&◌, nat_le, filter_map}
 use Rattle.std.specs.List.{sum_by, cons_option, list_any, AllByRecursion as Each}
 use Rattle.std.proofs.lemmas.Bool.{and_parts}
@@ -53,11 +53,8 @@ pub record Prices (cost : Message → ℕ) (ask : Asking → ℕ) (report : ℕ)
 
 -- ---- the first few of some messages
 
-taken_prefix : {X : Type 0} (k : ℕ) (xs : List X) → IsPrefixOf (take k xs) xs
-taken_prefix k xs = (drop k xs, take-append-drop k xs)
-
 clean_prefix : (said : List Message) (heard : Heard) → IsClean said heard → IsPrefixOf heard.messages said
-clean_prefix said heard clean = subst (λ (l : List Message). IsPrefixOf l said) (sym clean.messages) (taken_prefix clean.count said)
+clean_prefix said heard clean = subst (λ (l : List Message). IsPrefixOf l said) (sym clean.messages) (drop clean.count said, take-append-drop clean.count said)
 
 -- ---- the calls of an agent
 

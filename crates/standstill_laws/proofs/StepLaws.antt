@@ -177,13 +177,9 @@ sent_grows (Store word value) s = by word s.role
     by _ role = omega arith
 sent_grows _ s = omega arith
 
-settled_state : (s : Side) (plan : Plan) → (settled s plan).state ≡ s.state
-settled_state s (answers answer) = refl
-settled_state s (does op next) = refl
-
-settled_retired : (s : Side) (plan : Plan) → (settled s plan).retired ≡ s.retired
-settled_retired s (answers answer) = refl
-settled_retired s (does op next) = refl
+settled_stays : (s : Side) (plan : Plan) → ((settled s plan).state ≡ s.state) × ((settled s plan).retired ≡ s.retired)
+settled_stays s (answers answer) = (refl, refl)
+settled_stays s (does op next) = (refl, refl)
 
 side_goes_on : (s : Side) (taken : ℕ) → CallLawful s → GoesOn (plan_left s) → EndGoesOn s (side_after s taken)
 side_goes_on s taken lawful more =
@@ -192,9 +188,9 @@ side_goes_on s taken lawful more =
     record {
       got = omega (arith, prefix_length s.got m.got (got_grows (op_next s) s), ap (λ (l : List ℕ). length l) (settled_got m left));
       sent = omega (arith, sent_grows (op_next s) s, ap (λ (l : List ℕ). length l) (settled_sent m left));
-      opened = λ opened is. opened_stays (op_next s) s.role s.state opened (sym (settled_state m left) ∙ is);
-      shut = λ is. settled_state m left ∙ shut_stays s lawful more is;
-      retired = λ is. settled_retired m left ∙ or_right _ s.retired is;
+      opened = λ opened is. opened_stays (op_next s) s.role s.state opened (sym ((settled_stays m left).0) ∙ is);
+      shut = λ is. (settled_stays m left).0 ∙ shut_stays s lawful more is;
+      retired = λ is. (settled_stays m left).1 ∙ or_right _ s.retired is;
     }
 
 -- ---- a page
