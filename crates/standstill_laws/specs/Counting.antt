@@ -4,15 +4,13 @@ use Rattle.std.specs.Prelude.{◌≡◌, ℕ, ◌+◌, ◌*◌, ◌<◌, ◌==�
 use Rattle.std.specs.List.{AllByRecursion as Each}
 use Rattle.task_pool.specs.declared.task.Turn.TheVariants.{Again}
 use Rattle.domain_task.specs.declared.task.Task.{Task}
-use Rattle.domain_task.specs.Turning.{TaskTurns}
 use Rattle.domain_task.specs.Working.{work_done, DoesNothing, Works}
 
--- a turn after which its task goes on: of which task it is, what that was and is, and what the contract says of it
+-- a turn after which its task goes on: of which task it is, and what that was and is
 pub record TurnMade : Type 0 where
   pub place : ℕ
   pub before : Task
   pub now : Task
-  pub turns : TaskTurns before (Again now)
   pub works : Works before (Again now)
 
 -- the tasks once the one at this place has made its turn

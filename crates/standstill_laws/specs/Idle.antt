@@ -117,6 +117,6 @@ LinesFound pages place _ _ each = Unit {0}
 
 pub data IsIdle (pages : RunPages) : TurnMade → Type 0 where
   AgentIsIdle : (place : ℕ) (before now : AgentState) (turns : AgentTurns before (Again (Agent now))) (works : Works (Agent before) (Again (Agent now))) (rests : AgentRests before now) → AgentFound pages place before now turns rests
-      → IsIdle pages (record { place = place + 1; before = Agent before; now = Agent now; turns = turns; works = works })
+      → IsIdle pages (record { place = place + 1; before = Agent before; now = Agent now; works = works })
   BrokerIsIdle : (before now : BrokerState) (turns : BrokerTurns before (Again (Broker now))) (works : Works (Broker before) (Again (Broker now))) (rests : EachPair Rests before.lines now.lines) → LinesFound pages.control 0 before.lines now.lines rests
-      → IsIdle pages (record { place = 0; before = Broker before; now = Broker now; turns = turns; works = works })
+      → IsIdle pages (record { place = 0; before = Broker before; now = Broker now; works = works })
