@@ -21,7 +21,7 @@ use Rattle.hostile_task.specs.Plan.{HostileState, plan_of}
 use Rattle.hostile_task.specs.Pages.{AreSamePages, given_of, given_in, now_of, now_in, places_in}
 use Rattle.hostile_task.specs.Saying.{after_turn}
 use Rattle.hostile_task.specs.UnderWay.{HasBegun, IsPageSoFar, IsTrailSoFar, IsUnderWay, most_turns}
-use Rattle.hostile_task.specs.Turns.{GoesOn, HasDone, TakesTurn, all_turns, turns_left}
+use Rattle.hostile_task.specs.Turns.{GoesOn, HasDone, MayHaveTaken, TakesTurn, all_turns, turns_left}
 
 -- a task of these parts
 abbrev pub state_of : HostileDomain → Pages → Progress → HostileState
@@ -102,6 +102,14 @@ takes_said acts act bytes p mid next false at words few same more is =
 
 -- ---- how far the ends are
 
+-- the act under way has taken no more turns than it may
+few_taken : (acts : List Act) (p : Progress) (spelled : List ℕ) → HasBegun (slice_get acts p.acts) p spelled → MayHaveTaken acts p.acts p.turns
+few_taken acts p spelled begun act at = by_turns p.turns refl
+  where
+    by_turns : (n : ℕ) → p.turns ≡ n → p.turns ≤ most_turns act
+    by_turns zero is = omega (arith, is)
+    by_turns (suc n) is = omega (arith, ((subst (λ (o : Option Act). HasBegun o p spelled) at begun) (omega (arith, is))).0)
+
 -- on all ends one beginning of the acts is done
 pub has_done : (domain : HostileDomain) (pages : Pages) (p : Progress) (spelled : List ℕ) → IsUnderWay domain pages p spelled → HasDone (state_of domain pages p)
 has_done domain pages p spelled way = record {
@@ -110,6 +118,7 @@ has_done domain pages p spelled way = record {
   progress = p;
   acts_are = refl;
   turns_are = refl;
+  few = few_taken domain.acts p spelled way.begun;
   trails = trails (pages.control ∷ pages.payload.items) way.so_far;
 }
   where

@@ -1,6 +1,6 @@
 -- What a turn of the task of a hostile domain gives.
 -- Source: this project's own.
-use Rattle.std.specs.Prelude.{◌≡◌, ℕ, ◌+◌, ◌-◌, ◌<◌, ◌≤◌, List, [], ◌∷◌, None, drop, length, slice_get}
+use Rattle.std.specs.Prelude.{◌≡◌, ℕ, ◌+◌, ◌-◌, ◌<◌, ◌≤◌, List, [], ◌∷◌, Some, None, drop, length, slice_get}
 use Rattle.std.specs.Option.{option_and_then}
 use Rattle.std.specs.List.{AllByRecursion as Each, AllZip as EachPair}
 use Rattle.scenario_file.specs.declared.acts.Act.{Act}
@@ -33,6 +33,10 @@ pub record TakesTurn (acts : List Act) (done turns done_then turns_then : ℕ) :
 
 -- ---- how far it is
 
+-- so many of the acts are done, and the next one, if there is one, has taken no more turns than it may
+abbrev pub MayHaveTaken : List Act → ℕ → ℕ → Type 0
+MayHaveTaken acts done turns = (act : Act) → slice_get acts done ≡ Some act → turns ≤ most_turns act
+
 -- one beginning of the acts was done on all the ends: the acts that are done, and so many turns of the next one
 pub record HasDone (s : HostileState) : Type 0 where
   pub within : s.acts ≤ length s.plan.acts
@@ -40,6 +44,7 @@ pub record HasDone (s : HostileState) : Type 0 where
   pub progress : Progress
   pub acts_are : progress.acts ≡ s.acts
   pub turns_are : progress.turns ≡ s.turns
+  pub few : MayHaveTaken s.plan.acts s.acts s.turns
   pub trails : Each (λ e. IsTrailSoFar s.plan e.place progress e.view.trail) s.now
 
 -- the task as it was given, one turn further
