@@ -56,7 +56,7 @@ pub count_same : {A : Type 0} (p : A → Bool) (x : A) (xs : List A) → p x ≡
 unfolding one_if
 count_same p x xs is = let none : 0 + count_by p xs ≡ count_by p xs = omega arith in count_cons p x xs ∙ ap (λ (b : Bool). cond b 1 0 + count_by p xs) is ∙ none
 
-count_append : {A : Type 0} (p : A → Bool) (xs ys : List A) → count_by p (xs ++ ys) ≡ count_by p xs + count_by p ys
+pub count_append : {A : Type 0} (p : A → Bool) (xs ys : List A) → count_by p (xs ++ ys) ≡ count_by p xs + count_by p ys
 count_append {A} p xs ys = sum_by-append (λ (y : A). cond (p y) 1 0) xs ys
 
 -- ---- a trigger of a domain that wasn't dropped is accepted or refused

@@ -3,7 +3,10 @@ use Rattle.std.proofs.Common.{◌≡◌, ℕ, List, [], ◌∷◌, map, Some, No
 use Rattle.std.specs.Prelude.{min, nat_lt}
 use Rattle.std.specs.List.{flat_map, AllByRecursion as Each}
 use Rattle.std.proofs.lemmas.Bool.Decides.{nat_tests}
+use Rattle.ring_words.specs.declared.page.Role.{Role}
+use Rattle.ring_words.specs.declared.page.Role.TheVariants.{Server, Client}
 use Rattle.vchan_protocol.specs.declared.side.Side.{Side}
+use Rattle.vchan_protocol.specs.History.Core.{Core, side_of}
 use Rattle.qrexec_frame.specs.declared.kind.Channel.TheVariants.{Control}
 use Rattle.qrexec_frame.specs.declared.message.Message.{Message}
 use Rattle.qrexec_frame.specs.declared.message.Message.TheVariants.{Hello, Connect, Trigger3}
@@ -21,7 +24,7 @@ use Rattle.control_port.specs.Talking.{may_say, may_hear}
 use Rattle.control_port.specs.declared.talk.Talker.{Talker}
 use Rattle.control_port.specs.declared.talk.Talker.TheVariants.{Agent, Broker}
 use Rattle.standstill_laws.specs.Page.{StandsStill}
-use Rattle.standstill_laws.specs.Control.{Hears, AllIsHeard}
+use Rattle.standstill_laws.specs.Control.{Hears, Talks, AllIsHeard}
 use Rattle.standstill_laws.proofs.PageLaws.{stands_still}
 use Rattle.qrexec_data.specs.Laws.{IsVersion}
 
@@ -94,24 +97,20 @@ one_way may go from at said heard sent version each whole heard_is = by_greeted 
         sym heard_is ∙ ap (λ (bytes : List ℕ). hears at.own may bytes) whole.0 in
         (ap (λ (h : Heard). h.messages) same, ap (λ (h : Heard). h.version) same, ap (λ (h : Heard). h.fault) same)
 
+-- so it is where each side talks on its end of the page, and one got what the other sent
+heard_by : (core : Core) (who whose : Role) (s t : Talker) → GoOn (may_say s) → may_hear t ≡ may_say s → (side_of core whose).got ≡ (side_of core who).sent
+    → (from at : PortState) (said told heard other : List Message) → Talks core who s from said told → Talks core whose t at other heard → Hears from.greeted from at said heard
+heard_by core who whose s t go may got from at said told heard other mine its =
+    let each = subst (λ (x : Talker). Each (λ m. (may_say x m ≡ true) × IsSpellable m) said) mine.talker_is mine.says.each in
+    let all : at.end.side.got ≡ from.end.side.sent = ap (λ (x : Side). x.got) its.end ∙ got ∙ sym (ap (λ (x : Side). x.sent) mine.end) in
+    one_way (may_say s) go from at said heard from.end.side.sent mine.own each mine.says.whole
+    (ap (λ (bytes : List ℕ). hears at.own (may_say s) bytes) (sym all) ∙ ap (λ (p : Message → Bool). hears at.own p at.end.side.got) (sym (ap may_hear its.talker_is ∙ may)) ∙ its.hears)
+
 pub all_is_heard_lem : AllIsHeard
-all_is_heard_lem core a b said_a heard_a said_b heard_b l server client ta tb = (up, down)
+all_is_heard_lem core a b said_a heard_a said_b heard_b l server client ta tb = (
+  heard_by core Server Client Agent Broker to_broker_goes refl page.client_got a b said_a heard_a heard_b said_b ta tb,
+  heard_by core Client Server Broker Agent to_agent_goes refl page.server_got b a said_b heard_b heard_a said_a tb ta,
+)
   where
     page : StandsStill core
     page = stands_still core l server client
-
-    up : Hears a.greeted a b said_a heard_b
-    up =
-        let each : Each (λ m. (to_broker m ≡ true) × IsSpellable m) said_a = subst (λ (t : Talker). Each (λ m. (may_say t m ≡ true) × IsSpellable m) said_a) ta.talker_is ta.says.each in
-        let got : b.end.side.got ≡ a.end.side.sent = ap (λ (x : Side). x.got) tb.end ∙ page.client_got ∙ sym (ap (λ (x : Side). x.sent) ta.end) in
-        let all : hears b.own (may_hear Broker) a.end.side.sent ≡ record { version = b.version; messages = heard_b; fault = b.fault } =
-        ap (λ (bytes : List ℕ). hears b.own (may_hear Broker) bytes) (sym got) ∙ ap (λ (t : Talker). hears b.own (may_hear t) b.end.side.got) (sym tb.talker_is) ∙ tb.hears in
-        one_way to_broker to_broker_goes a b said_a heard_b a.end.side.sent ta.own each ta.says.whole all
-
-    down : Hears b.greeted b a said_b heard_a
-    down =
-        let each : Each (λ m. (to_agent m ≡ true) × IsSpellable m) said_b = subst (λ (t : Talker). Each (λ m. (may_say t m ≡ true) × IsSpellable m) said_b) tb.talker_is tb.says.each in
-        let got : a.end.side.got ≡ b.end.side.sent = ap (λ (x : Side). x.got) ta.end ∙ page.server_got ∙ sym (ap (λ (x : Side). x.sent) tb.end) in
-        let all : hears a.own (may_hear Agent) b.end.side.sent ≡ record { version = a.version; messages = heard_a; fault = a.fault } =
-        ap (λ (bytes : List ℕ). hears a.own (may_hear Agent) bytes) (sym got) ∙ ap (λ (t : Talker). hears a.own (may_hear t) a.end.side.got) (sym ta.talker_is) ∙ ta.hears in
-        one_way to_agent to_agent_goes b a said_b heard_a b.end.side.sent tb.own each tb.says.whole all

@@ -1,33 +1,47 @@
 -- Where each task has its turn again and again, turns that did nothing are soon followed by one that did something.
-use Rattle.std.proofs.Common.{◌≡◌, ◌≢◌, ◌⊎◌, ℕ, ◌+◌, ◌*◌, ◌<◌, ◌≤◌, ◌==◌, zero, suc, Bool, true, false, List, [], ◌∷◌, ◌++◌, length, length-append, append_assoc, refl, sym, ap, ◌∙◌, subst, arith, inl, inr}
-use Rattle.std.specs.Prelude.{cond}
+use Rattle.std.proofs.Common.{◌≡◌, ◌≢◌, ◌⊎◌, ℕ, ◌+◌, ◌*◌, ◌<◌, ◌≤◌, ◌==◌, zero, suc, Bool, true, false, List, [], ◌∷◌, ◌++◌, length, length-drop, append_assoc, refl, sym, ap, ◌∙◌, subst, arith, inl, inr}
 use Rattle.std.specs.List.{AllByRecursion as Each}
+use Rattle.std.specs.Prelude.{take, drop}
 use Rattle.std.proofs.lemmas.Bool.Decides.{eqb_tells}
-use Rattle.std.proofs.lemmas.List.Sums.{sum_by-append}
+use Rattle.std.proofs.lemmas.List.{take-append-drop, length-take-le}
 use Rattle.call_broker.specs.Domains.{Domains, count_of}
 use Rattle.domain_task.specs.declared.task.Task.{Task}
 use Rattle.domain_task.specs.Working.{DoesNothing}
 use Rattle.standstill_laws.specs.Counting.{TurnMade, tasks_after, AreMade, NoneIsMade, OneIsMade}
 use Rattle.standstill_laws.specs.Stretches.{turns_of, IsHonestPlace, IsFair, StretchesAreShort, FairTurnsAreBounded, FairRunsAreBounded}
-use Rattle.standstill_laws.proofs.AnswerLaws.{count_same}
+use Rattle.standstill_laws.proofs.OwnLaws.{turns_append, turns_same}
 use Rattle.standstill_laws.proofs.CountingLaws.{turns_are_bounded_lem}
 use Rattle.standstill_laws.proofs.WorkLaws.{run_turns_are_bounded_lem}
 use Rattle.standstill_laws.proofs.StretchesLaws.{no_stretch_lasts_lem}
 
 -- ---- lists of turns
 
-pub record SplitAt (n : ℕ) (turns : List TurnMade) : Type 0 where
+-- some turns in a row, cut in two
+pub record Cut (turns before row after : List TurnMade) (m n : ℕ) : Type 0 where
   pub front : List TurnMade
   pub back : List TurnMade
-  pub is : turns ≡ front ++ back
-  pub long : length front ≡ n
+  pub is : row ≡ front ++ back
+  pub front_long : length front ≡ m
+  pub back_long : length back ≡ n
+  pub at_front : turns ≡ before ++ front ++ (back ++ after)
+  pub at_back : turns ≡ (before ++ front) ++ back ++ after
 
-pub split_at : (n : ℕ) (turns : List TurnMade) → n ≤ length turns → SplitAt n turns
-split_at zero turns less = record { front = []; back = turns; is = refl; long = refl }
-split_at (suc n) [] less = absurd (omega (arith, less))
-split_at (suc n) (made ∷ turns) less =
-    let s = split_at n turns (omega (arith, less)) in
-    record { front = made ∷ s.front; back = s.back; is = ap (λ (l : List TurnMade). made ∷ l) s.is; long = omega (arith, s.long) }
+pub cut : (turns before row after : List TurnMade) → turns ≡ before ++ row ++ after → (m n : ℕ) → length row ≡ m + n → Cut turns before row after m n
+cut turns before row after parts m n long =
+    let is : row ≡ take m row ++ drop m row = sym (take-append-drop m row) in
+    let all = parts ∙ ap (λ (l : List TurnMade). before ++ l ++ after) is ∙ ap (λ (l : List TurnMade). l ++ after) (sym (append_assoc before (take m row) (drop m row))) in
+    record {
+      front = take m row;
+      back = drop m row;
+      is = is;
+      front_long = length-take-le m row (omega (arith, long));
+      back_long = omega (arith, length-drop m row, long);
+      at_front = all ∙ append_assoc (before ++ take m row) (drop m row) after;
+      at_back = all;
+    }
+
+cut_turns : (place : ℕ) (turns before row after : List TurnMade) (m n : ℕ) (c : Cut turns before row after m n) → turns_of place row ≡ turns_of place c.front + turns_of place c.back
+cut_turns place turns before row after m n c = ap (turns_of place) c.is ∙ turns_append place c.front c.back
 
 -- the first turn of a task
 record FirstTurn (place : ℕ) (turns : List TurnMade) : Type 0 where
@@ -44,19 +58,8 @@ first_turn place (made ∷ turns) some = by (eqb_tells place made.place) (first_
     by : (((place == made.place) ≡ true) × (place ≡ made.place)) ⊎ (((place == made.place) ≡ false) × (place ≢ made.place)) → (0 < turns_of place turns → FirstTurn place turns) → FirstTurn place (made ∷ turns)
     by (inl same) later = record { before = []; made = made; after = turns; is = refl; place_is = sym same.1 }
     by (inr other) later =
-        let f = later (omega (arith, some, count_same (λ (m : TurnMade). place == m.place) made turns other.0)) in
+        let f = later (omega (arith, some, turns_same place made turns other.0)) in
         record { before = made ∷ f.before; made = f.made; after = f.after; is = ap (λ (l : List TurnMade). made ∷ l) f.is; place_is = f.place_is }
-
-pub turns_append : (place : ℕ) (a b : List TurnMade) → turns_of place (a ++ b) ≡ turns_of place a + turns_of place b
-turns_append place a b = sum_by-append (λ (made : TurnMade). cond (place == made.place) 1 0) a b
-
--- turns that come before a split of some in a row, and behind it
-pub at_front : (turns before row after front back : List TurnMade) → turns ≡ before ++ row ++ after → row ≡ front ++ back → turns ≡ before ++ front ++ (back ++ after)
-at_front turns before row after front back parts is =
-    parts ∙ ap (λ (l : List TurnMade). before ++ l ++ after) is ∙ ap (λ (l : List TurnMade). l ++ after) (sym (append_assoc before front back)) ∙ append_assoc (before ++ front) back after
-
-pub at_back : (turns before row after front back : List TurnMade) → turns ≡ before ++ row ++ after → row ≡ front ++ back → turns ≡ (before ++ front) ++ back ++ after
-at_back turns before row after front back parts is = parts ∙ ap (λ (l : List TurnMade). before ++ l ++ after) is ∙ ap (λ (l : List TurnMade). l ++ after) (sym (append_assoc before front back))
 
 -- ---- tasks
 
@@ -73,31 +76,34 @@ made_split many first last (x ∷ a) b (OneIsMade tasks last' made turns placed 
 
 -- ---- fairness
 
--- in so many times the turns of a round each task has so many turns
+-- a task that has one of so many turns in a row, wherever this holds of those behind, has so many of so many times as many
+pub rounds : (place round : ℕ) (turns : List TurnMade) (P : List TurnMade → Type 0) → ((front after : List TurnMade) → P after → P (front ++ after))
+    → ((before row after : List TurnMade) → turns ≡ before ++ row ++ after → length row ≡ round → P after → 0 < turns_of place row)
+    → (k : ℕ) (before row after : List TurnMade) → turns ≡ before ++ row ++ after → P after → length row ≡ k * round → k ≤ turns_of place row
+rounds place round turns P keeps has_one zero before row after parts holds long = omega arith
+rounds place round turns P keeps has_one (suc k) before row after parts holds long =
+    let c = cut turns before row after parts round (k * round) (omega (arith, long)) in
+    let one = has_one before c.front (c.back ++ after) c.at_front c.front_long (keeps c.back after holds) in
+    let others = rounds place round turns P keeps has_one k (before ++ c.front) c.back after c.at_back holds c.back_long in
+    omega (arith, one, others, cut_turns place turns before row after round (k * round) c)
+
 fair_rounds : (hub : Domains) (honest : ℕ → Bool) (round : ℕ) (turns : List TurnMade) → IsFair hub honest round turns → (place : ℕ) → IsHonestPlace hub honest place → (k : ℕ) (before row after : List TurnMade) → turns ≡ before ++ row ++ after → length row ≡ k * round → k ≤ turns_of place row
-fair_rounds hub honest round turns fair place mine zero before row after parts long = omega arith
-fair_rounds hub honest round turns fair place mine (suc k) before row after parts long =
-    let s = split_at round row (omega (arith, long)) in
-    let lengths = ap (λ (l : List TurnMade). length l) s.is ∙ length-append s.front s.back in
-    let one = fair before s.front (s.back ++ after) (at_front turns before row after s.front s.back parts s.is) s.long place mine in
-    let others = fair_rounds hub honest round turns fair place mine k (before ++ s.front) s.back after (at_back turns before row after s.front s.back parts s.is) (omega (arith, long, lengths, s.long)) in
-    let sum = ap (turns_of place) s.is ∙ turns_append place s.front s.back in
-    omega (arith, one, others, sum)
+fair_rounds hub honest round turns fair place mine k before row after parts long =
+    rounds place round turns (λ behind. Unit {0}) (λ front behind holds. tt) (λ ahead row behind parts long holds. fair ahead row behind parts long place mine) k before row after parts tt long
 
 pub stretches_are_short_lem : StretchesAreShort
 stretches_are_short_lem hub honest round first last turns made fair stand before resting after parts long nothing =
     let many = count_of hub + 1 in
     let did : TurnMade → Type 0 = λ (m : TurnMade). DoesNothing m.before m.now in
-    let s = split_at (7 * round) resting (omega (arith, long)) in
-    let lengths = ap (λ (l : List TurnMade). length l) s.is ∙ length-append s.front s.back in
-    let f = first_turn 0 s.back (fair (before ++ s.front) s.back after (at_back turns before resting after s.front s.back parts s.is) (omega (arith, long, lengths, s.long)) 0 (inl refl)) in
+    let s = cut turns before resting after parts (7 * round) round (omega (arith, long)) in
+    let f = first_turn 0 s.back (fair (before ++ s.front) s.back after s.at_back s.back_long 0 (inl refl)) in
     let row : List TurnMade = s.front ++ f.before in
     let all : resting ≡ row ++ f.made ∷ f.after = s.is ∙ ap (λ (l : List TurnMade). s.front ++ l) f.is ∙ sym (append_assoc s.front f.before (f.made ∷ f.after)) in
     let two = made_split many first last (before ++ resting) after (subst (λ (l : List TurnMade). AreMade many first l last) parts made) in
     let one = made_split many first two.mid before resting two.front in
     let three = made_split many one.mid two.mid row (f.made ∷ f.after) (subst (λ (l : List TurnMade). AreMade many one.mid l two.mid) all one.back) in
     let some : (place : ℕ) → IsHonestPlace hub honest place → 0 < turns_of place row =
-    λ place mine. omega (arith, fair_rounds hub honest round turns fair place mine 7 before s.front (s.back ++ after) (at_front turns before resting after s.front s.back parts s.is) s.long, turns_append place s.front f.before) in
+    λ place mine. omega (arith, fair_rounds hub honest round turns fair place mine 7 before s.front (s.back ++ after) s.at_front s.front_long, turns_append place s.front f.before) in
     let eight : (place : ℕ) → IsHonestPlace hub honest place → 8 ≤ turns_of place (row ++ f.made ∷ f.after) =
     λ place mine. subst (λ (l : List TurnMade). 8 ≤ turns_of place l) all (fair_rounds hub honest round turns fair place mine 8 before resting after parts long) in
     let so = stand before row f.after after f.made one.mid three.mid two.mid (parts ∙ ap (λ (l : List TurnMade). before ++ l ++ after) all) three.front three.back f.place_is (λ place mine. (some place mine, eight place mine)) (subst (Each did) all nothing) in

@@ -1,9 +1,7 @@
 -- Sessions with domains that have left end, the broker drops these domains, and no hostile one rests.
-use Rattle.std.proofs.Common.{◌≡◌, ◌≢◌, ◌⊎◌, ℕ, ◌+◌, ◌<◌, ◌≤◌, ◌==◌, zero, suc, Bool, true, false, List, [], ◌∷◌, length, refl, sym, ap, ◌∙◌, subst, arith, inl, inr, Option}
+use Rattle.std.proofs.Common.{◌≡◌, ◌⊎◌, ℕ, ◌<◌, ◌≤◌, ◌==◌, Bool, true, false, length, refl, subst, arith, inl, inr, Option}
 use Rattle.std.specs.Prelude.{not, IsSome}
-use Rattle.std.proofs.lemmas.Bool.Decides.{eqb_tells, nat_tests}
-use Rattle.std.specs.List.{AllByRecursion as Each}
-use Rattle.list_laws.specs.Lists.{SomeOf}
+use Rattle.std.proofs.lemmas.Bool.Decides.{nat_tests}
 use Rattle.ring_words.specs.declared.page.Role.{Role}
 use Rattle.ring_words.specs.declared.page.Role.TheVariants.{Client}
 use Rattle.vchan_protocol.specs.declared.call.Answer.TheVariants.{Gone}
@@ -16,46 +14,29 @@ use Rattle.vchan_protocol.specs.Honest.RingLaw.{word_at}
 use Rattle.vchan_protocol.proofs.Answering.AnswerLaws.{has_cause}
 use Rattle.vchan_lifecycle.specs.Lifecycle.{FindsNotYet}
 use Rattle.vchan_rule.specs.Seated.{SeatedEnd, view}
-use Rattle.channel_session.specs.Turning.{Pace}
-use Rattle.agent_slots.specs.Sessions.{Session, CallsWith, ServesWith}
 use Rattle.broker_task.specs.Lines.{is_shut}
 use Rattle.broker_task.specs.Moving.{BrokerLine, FindsHere, HasMoved, IsQuiet}
 use Rattle.domain_task.specs.declared.task.Task.{Task}
 use Rattle.domain_task.specs.declared.task.Task.TheVariants.{Agent, Broker, Hostile}
 use Rattle.domain_task.specs.Working.{DoesNothing}
-use Rattle.standstill_laws.specs.Counting.{TurnMade, tasks_after, AreMade, NoneIsMade, OneIsMade}
-use Rattle.standstill_laws.specs.Stretch.{RestsOn, NoTurn, OneTurn}
+use Rattle.standstill_laws.specs.Sides.{quiet_by}
 use Rattle.standstill_laws.specs.Sessions.{IsGoneStill}
-use Rattle.standstill_laws.specs.Hostile.{RestsAlone, NoneMade, CallQuiet, CallPassed, ServingQuiet, ServingPassed, NoSessionRestsAlone, LeftAreDropped, IsHostile, NoHostileTaskRests}
-use Rattle.standstill_laws.proofs.CountingLaws.{passed_over}
+use Rattle.standstill_laws.specs.Stretches.{turns_of}
+use Rattle.standstill_laws.specs.Hostile.{FoundLeft, NoSessionRestsAlone, LeftAreDropped, IsHostile, NoHostileTaskRests}
 use Rattle.standstill_laws.proofs.OverLaws.{not_left}
-use Rattle.standstill_laws.proofs.StretchLaws.{stretches_rest_lem}
+use Rattle.standstill_laws.proofs.SideLaws.{quiet_one}
+use Rattle.standstill_laws.proofs.OwnLaws.{OwnTurns, NoOwn, OneOwn, own_turns, makes_some, DidNothing, stretches_rest_lem, rests_keep}
 
 -- ---- sessions
 
--- how many turns of a session were passed over since the last one that was made
-abbrev passed_in : Session → ℕ
-passed_in (CallsWith at) = at.pace.passed
-passed_in (ServesWith at) = at.pace.passed
-passed_in session = 0
-
-one_more : (n before now : ℕ) → now ≡ before + 1 → before < 7 → (n ≡ 0) ⊎ (n + now ≤ 7) → (suc n ≡ 0) ⊎ (suc n + before ≤ 7)
-one_more n before now is may (inl none) = inr (omega (arith, none, may))
-one_more n before now is may (inr few) = inr (omega (arith, is, few))
-
-few_rest : (who : Role) (n : ℕ) (first last : Session) → RestsAlone who n first last → (n ≡ 0) ⊎ (n + passed_in first ≤ 7)
-few_rest who zero first last (NoneMade s) = inl refl
-few_rest who (suc n) first last (CallQuiet n' core before now last' turn left still rest) = absurd (left (not_left core who turn.2.found turn.2.left turn.2.not_yet still))
-few_rest who (suc n) first last (ServingQuiet n' core before now last' turn left still rest) = absurd (left (not_left core who turn.2.found turn.2.left turn.2.not_yet still))
-few_rest who (suc n) first last (CallPassed n' before now last' turn rest) = one_more n before.pace.passed now.pace.passed (ap (λ (p : Pace). p.passed) turn.1.pace) turn.1.may.1 (few_rest who n (CallsWith now) last rest)
-few_rest who (suc n) first last (ServingPassed n' before now last' turn rest) = one_more n before.pace.passed now.pace.passed (ap (λ (p : Pace). p.passed) turn.1.pace) turn.1.may.1 (few_rest who n (ServesWith now) last rest)
-
 pub no_session_rests_alone_lem : NoSessionRestsAlone
-no_session_rests_alone_lem who n first last rests = by_count (few_rest who n first last rests)
+no_session_rests_alone_lem who side n from to rests = omega (arith, alone)
   where
-    by_count : (n ≡ 0) ⊎ (n + passed_in first ≤ 7) → n < 8
-    by_count (inl none) = omega (arith, none)
-    by_count (inr few) = omega (arith, few)
+    alone : ¬ (8 ≤ n)
+    alone long =
+        let x = quiet_one side (FoundLeft who side) n from to rests long in
+        let q = quiet_by side x.before x.now x.turn in
+        x.found.left (not_left x.found.core who q.found q.left q.not_yet x.found.still)
 
 -- ---- the broker
 
@@ -110,21 +91,11 @@ stays (Agent a) (Hostile k) nothing hostile = nothing
 stays (Broker b) (Hostile k) nothing hostile = nothing
 stays (Hostile h) (Hostile k) nothing hostile = nothing
 
-last_is_none : (task last : Task) → RestsOn task last → ¬ IsHostile task → ¬ IsHostile last
-last_is_none task last (NoTurn t) none = none
-last_is_none task last (OneTurn before now last' nothing rest) none = last_is_none now last rest (stays before now nothing)
-
-first_is_none : (many : ℕ) (first last : ℕ → Task) (turns : List TurnMade) → AreMade many first turns last → Each (λ made. DoesNothing made.before made.now) turns → (place : ℕ) → SomeOf (λ made. made.place ≡ place) turns → ¬ IsHostile (first place)
-first_is_none many first last [] (NoneIsMade tasks) each place some = absurd some
-first_is_none many first last (made ∷ turns) (OneIsMade tasks last' made' turns' placed is rest) each place some = by_place (eqb_tells place made.place) some (first_is_none many (tasks_after first made) last turns rest each.1 place)
-  where
-    by_place : (((place == made.place) ≡ true) × (place ≡ made.place)) ⊎ (((place == made.place) ≡ false) × (place ≢ made.place)) → (made.place ≡ place) ⊎ SomeOf (λ made. made.place ≡ place) turns
-        → (SomeOf (λ made. made.place ≡ place) turns → ¬ IsHostile (tasks_after first made place)) → ¬ IsHostile (first place)
-    by_place (inl same) some on hostile = acts made.before made.now each.0 (subst IsHostile (ap first same.1 ∙ is) hostile)
-    by_place (inr other) (inl here) on hostile = other.1 (sym here)
-    by_place (inr other) (inr there) on hostile = on there (subst IsHostile (sym (passed_over made.now (first place) (place == made.place) other.0)) hostile)
+acts_first : (place n : ℕ) (task last : Task) → OwnTurns DidNothing place n task last → 0 < n → ¬ IsHostile task
+acts_first place n task last (NoOwn t) some = absurd (omega (arith, some))
+acts_first place n task last (OneOwn m made last' nothing placed rest) some = acts made.before made.now nothing
 
 pub no_hostile_task_rests_lem : NoHostileTaskRests
 no_hostile_task_rests_lem many first last turns made each place some =
-    let none = first_is_none many first last turns made each place some in
-    (none, last_is_none (first place) (last place) (stretches_rest_lem many first last turns made each place) none)
+    let none = acts_first place (turns_of place turns) (first place) (last place) (own_turns DidNothing many first last turns made each place) (makes_some place turns some) in
+    (none, rests_keep (λ task. ¬ IsHostile task) (λ before now nothing was. stays before now nothing) (first place) (last place) (stretches_rest_lem many first last turns made each place) none)

@@ -26,108 +26,108 @@ use Rattle.task_duties.specs.Broker.Owes.{broker_version}
 use Rattle.agent_control.specs.Speaking.{terminated}
 use Rattle.agent_control.specs.Stopping.{FindsLess, Stops, AtAnEnd, AtTheLimit, AtATrigger, HoldsBack, NothingIsDue, HasLessRoom, DidNotGo}
 use Rattle.standstill_laws.specs.Saying.{Fits, AnswerStill, FailsStill, LessStill, HoldsBackStill, StopsStill, SaysNothingStill}
-use Rattle.standstill_laws.specs.Keeping.{PageRested, FindingsStay}
+use Rattle.standstill_laws.specs.Keeping.{PageRested, KeepsFindings, FindingsStay}
 
-index_stays : (before now : Core) → PageRested before now → (old later : ℕ) → later ≡ old → index_at before.start old ≡ index_at now.start later
-index_stays before now rested old later same = ap (λ (n : ℕ). index_at n old) (sym rested.start) ∙ ap (index_at now.start) (sym same)
+module _ (before now : Core) (old : Lawful before) (new : Lawful now) (rested : PageRested before now) where
+  -- ---- the words of the page
 
-prod_stays : (before now : Core) → Lawful before → Lawful now → PageRested before now → (ring : Ring) → word_at before.orders before.words (prod_word ring) ≡ word_at now.orders now.words (prod_word ring)
-prod_stays before now old new rested Left = old.left.lawful.prod ∙ index_stays before now rested (length before.client.sent) (length now.client.sent) (rested.ends Client).sent ∙ sym new.left.lawful.prod
-prod_stays before now old new rested Right = old.right.lawful.prod ∙ index_stays before now rested (length before.server.sent) (length now.server.sent) (rested.ends Server).sent ∙ sym new.right.lawful.prod
+  index_stays : (was later : ℕ) → later ≡ was → index_at before.start was ≡ index_at now.start later
+  index_stays was later same = ap (λ (n : ℕ). index_at n was) (sym rested.start) ∙ ap (index_at now.start) (sym same)
 
-cons_stays : (before now : Core) → Lawful before → Lawful now → PageRested before now → (ring : Ring) → word_at before.orders before.words (cons_word ring) ≡ word_at now.orders now.words (cons_word ring)
-cons_stays before now old new rested Left = old.left.lawful.cons ∙ index_stays before now rested (length before.server.got) (length now.server.got) (rested.ends Server).got ∙ sym new.left.lawful.cons
-cons_stays before now old new rested Right = old.right.lawful.cons ∙ index_stays before now rested (length before.client.got) (length now.client.got) (rested.ends Client).got ∙ sym new.right.lawful.cons
+  prod_stays : (ring : Ring) → word_at before.orders before.words (prod_word ring) ≡ word_at now.orders now.words (prod_word ring)
+  prod_stays Left = old.left.lawful.prod ∙ index_stays (length before.client.sent) (length now.client.sent) (rested.ends Client).sent ∙ sym new.left.lawful.prod
+  prod_stays Right = old.right.lawful.prod ∙ index_stays (length before.server.sent) (length now.server.sent) (rested.ends Server).sent ∙ sym new.right.lawful.prod
 
-live_stays : (before now : Core) → Lawful before → Lawful now → PageRested before now → (who : Role) → word_at before.orders before.words (peer_live who) ≡ word_at now.orders now.words (peer_live who)
-live_stays before now old new rested Server = old.lives.client_words.live ∙ ap live_word (sym (rested.ends Client).state) ∙ sym new.lives.client_words.live
-live_stays before now old new rested Client = old.lives.server_words.live ∙ ap live_word (sym (rested.ends Server).state) ∙ sym new.lives.server_words.live
+  cons_stays : (ring : Ring) → word_at before.orders before.words (cons_word ring) ≡ word_at now.orders now.words (cons_word ring)
+  cons_stays Left = old.left.lawful.cons ∙ index_stays (length before.server.got) (length now.server.got) (rested.ends Server).got ∙ sym new.left.lawful.cons
+  cons_stays Right = old.right.lawful.cons ∙ index_stays (length before.client.got) (length now.client.got) (rested.ends Client).got ∙ sym new.right.lawful.cons
 
-gone_stays : (before now : Core) → Lawful before → Lawful now → PageRested before now → (who : Role) → word_at before.orders before.words (peer_gone who) ≡ word_at now.orders now.words (peer_gone who)
-gone_stays before now old new rested Server = old.lives.client_words.gone.word ∙ ap (λ (b : Bool). if b then 1 else 0) (sym (rested.ends Client).retired) ∙ sym new.lives.client_words.gone.word
-gone_stays before now old new rested Client = old.lives.server_words.gone.word ∙ ap (λ (b : Bool). if b then 1 else 0) (sym (rested.ends Server).retired) ∙ sym new.lives.server_words.gone.word
+  live_stays : (who : Role) → word_at before.orders before.words (peer_live who) ≡ word_at now.orders now.words (peer_live who)
+  live_stays Server = old.lives.client_words.live ∙ ap live_word (sym (rested.ends Client).state) ∙ sym new.lives.client_words.live
+  live_stays Client = old.lives.server_words.live ∙ ap live_word (sym (rested.ends Server).state) ∙ sym new.lives.server_words.live
 
--- ---- why nothing went
+  gone_stays : (who : Role) → word_at before.orders before.words (peer_gone who) ≡ word_at now.orders now.words (peer_gone who)
+  gone_stays Server = old.lives.client_words.gone.word ∙ ap (λ (b : Bool). if b then 1 else 0) (sym (rested.ends Client).retired) ∙ sym new.lives.client_words.gone.word
+  gone_stays Client = old.lives.server_words.gone.word ∙ ap (λ (b : Bool). if b then 1 else 0) (sym (rested.ends Server).retired) ∙ sym new.lives.server_words.gone.word
 
-abbrev IndicesStay : Core → Core → Type 0
-IndicesStay before now = (ring : Ring) (prod cons : ℕ) → AreIndices before ring prod cons → AreIndices now ring prod cons
+  -- ---- what was found
 
-abbrev LivesStay : Core → Core → Type 0
-LivesStay before now = (who : Role) (loads : Loads) → IsLiveStill before who loads → IsLiveStill now who loads
+  indices : (ring : Ring) (prod cons : ℕ) → AreIndices before ring prod cons → AreIndices now ring prod cons
+  indices ring prod cons still = (still.0 ∙ prod_stays ring, still.1 ∙ cons_stays ring)
 
-stands : (before now : Core) → PageRested before now → (who : Role) (begun : Standing) → IsStanding before who begun → IsStanding now who begun
-stands before now rested who begun stood = (stood.0, stood.1 ∙ sym rested.orders)
+  live : (who : Role) (loads : Loads) → IsLiveStill before who loads → IsLiveStill now who loads
+  live who loads still = still ∙ ap (λ (n : ℕ). Some (low8 n)) (live_stays who)
 
-fits : (before now : Core) → PageRested before now → (who : Role) (count : ℕ) → Fits before who count → Fits now who count
-fits before now rested who count = subst (λ (o : Orders). count ≤ size (order_of o (written_ring who))) (sym rested.orders)
+  stands : (who : Role) (begun : Standing) → IsStanding before who begun → IsStanding now who begun
+  stands who begun stood = (stood.0, stood.1 ∙ sym rested.orders)
 
-answer_still : (before now : Core) → IndicesStay before now → LivesStay before now → (who : Role) (loads : Loads) (a : SendAnswer) → AnswerStill before who loads a → AnswerStill now who loads a
-answer_still before now indices live who loads Sent still = tt
-answer_still before now indices live who loads (NoRoom prod cons) still = indices (written_ring who) prod cons still
-answer_still before now indices live who loads PeerClosed still = live who loads still
+  fits : (who : Role) (count : ℕ) → Fits before who count → Fits now who count
+  fits who count = subst (λ (o : Orders). count ≤ size (order_of o (written_ring who))) (sym rested.orders)
 
-fails_still : (before now : Core) → PageRested before now → IndicesStay before now → LivesStay before now → (who : Role) (bytes : List ℕ) (old new : SeatedEnd) (f : FailsToSend bytes old new) → FailsStill before who bytes old new f → FailsStill now who bytes old new f
-fails_still before now rested indices live who bytes old new f still = record {
-  stood = stands before now rested who (standing_of old.side) still.stood;
-  fits = fits before now rested who (length bytes) still.fits;
-  found = answer_still before now indices live who (loads_of (standing_of old.side) new.side.trail) f.answer still.found;
-}
+  answer_still : (who : Role) (loads : Loads) (a : SendAnswer) → AnswerStill before who loads a → AnswerStill now who loads a
+  answer_still who loads Sent still = tt
+  answer_still who loads (NoRoom prod cons) still = indices (written_ring who) prod cons still
+  answer_still who loads PeerClosed still = live who loads still
 
-less_still : (before now : Core) → PageRested before now → IndicesStay before now → (who : Role) (count : ℕ) (old new : SeatedEnd) (f : FindsLess old new count) → LessStill before who count old new f → LessStill now who count old new f
-less_still before now rested indices who count old new f still = record {
-  stood = stands before now rested who (standing_of old.side) still.stood;
-  fits = fits before now rested who count still.fits;
-  last = still.last;
-  last_is = still.last_is;
-  found = indices (written_ring who) still.last.prod still.last.cons still.found;
-}
+  fails_still : (who : Role) (bytes : List ℕ) (was is : SeatedEnd) (f : FailsToSend bytes was is) → FailsStill before who bytes was is f → FailsStill now who bytes was is f
+  fails_still who bytes was is f still = record {
+    stood = stands who (standing_of was.side) still.stood;
+    fits = fits who (length bytes) still.fits;
+    found = answer_still who (loads_of (standing_of was.side) is.side.trail) f.answer still.found;
+  }
 
-holds_back_still : (before now : Core) → PageRested before now → IndicesStay before now → LivesStay before now → (old new : AgentControl) (h : HoldsBack old new) → HoldsBackStill before old new h → HoldsBackStill now old new h
-holds_back_still before now rested indices live old new (NothingIsDue held) still = tt
-holds_back_still before now rested indices live old new (HasLessRoom w) still = less_still before now rested indices Server (length (written w.trigger)) w.before new.port.end w.finds still
-holds_back_still before now rested indices live old new (DidNotGo w) still = fails_still before now rested indices live Server (written w.trigger) w.before new.port.end w.finds still
+  less_still : (who : Role) (count : ℕ) (was is : SeatedEnd) (f : FindsLess was is count) → LessStill before who count was is f → LessStill now who count was is f
+  less_still who count was is f still = record {
+    stood = stands who (standing_of was.side) still.stood;
+    fits = fits who count still.fits;
+    last = still.last;
+    last_is = still.last_is;
+    found = indices (written_ring who) still.last.prod still.last.cons still.found;
+  }
 
-stops_still : (before now : Core) → PageRested before now → IndicesStay before now → LivesStay before now → (calls : ℕ) (old new : AgentControl) (s : Stops calls old new) → StopsStill before calls old new s → StopsStill now calls old new s
-stops_still before now rested indices live calls old new (AtAnEnd w) still = fails_still before now rested indices live Server (written (terminated w.end)) w.before new.port.end w.fails still
-stops_still before now rested indices live calls old new (AtTheLimit none next) still = tt
-stops_still before now rested indices live calls old new (AtATrigger none back) still = holds_back_still before now rested indices live old new back still
+  holds_back_still : (was is : AgentControl) (h : HoldsBack was is) → HoldsBackStill before was is h → HoldsBackStill now was is h
+  holds_back_still was is (NothingIsDue held) still = tt
+  holds_back_still was is (HasLessRoom w) still = less_still Server (length (written w.trigger)) w.before is.port.end w.finds still
+  holds_back_still was is (DidNotGo w) still = fails_still Server (written w.trigger) w.before is.port.end w.finds still
 
-says_nothing_still : (before now : Core) → PageRested before now → IndicesStay before now → LivesStay before now → (line : BrokerLine) (old new : SeatedEnd) (s : SaysNothing line.version line.greeted line.letters old new) → SaysNothingStill before line old new s → SaysNothingStill now line old new s
-says_nothing_still before now rested indices live line old new (greeting_waits none same fails) still = fails_still before now rested indices live Client (written (Hello broker_version)) old new fails still
-says_nothing_still before now rested indices live line old new (letter_waits at l greets there ready was same fails) still = fails_still before now rested indices live Client (written l.message) old new fails still
-says_nothing_still before now rested indices live line old new _ still = tt
+  stops_still : (calls : ℕ) (was is : AgentControl) (s : Stops calls was is) → StopsStill before calls was is s → StopsStill now calls was is s
+  stops_still calls was is (AtAnEnd w) still = fails_still Server (written (terminated w.end)) w.before is.port.end w.fails still
+  stops_still calls was is (AtTheLimit none next) still = tt
+  stops_still calls was is (AtATrigger none back) still = holds_back_still was is back still
+
+  says_nothing_still : (line : BrokerLine) (was is : SeatedEnd) (s : SaysNothing line.version line.greeted line.letters was is) → SaysNothingStill before line was is s → SaysNothingStill now line was is s
+  says_nothing_still line was is (greeting_waits none same fails) still = fails_still Client (written (Hello broker_version)) was is fails still
+  says_nothing_still line was is (letter_waits at l greets there ready kept same fails) still = fails_still Client (written l.message) was is fails still
+  says_nothing_still line was is _ still = tt
+
+  keeps_findings : KeepsFindings before now
+  keeps_findings = record {
+    indices = indices;
+    live = live;
+    gone = λ who loads still. still ∙ ap (λ (n : ℕ). Some n) (gone_stays who);
+    nothing = λ who found. record {
+      begun = found.begun;
+      stood = stands who found.begun found.stood;
+      most = found.most;
+      loads = found.loads;
+      prod = found.prod;
+      cons = found.cons;
+      cause = found.cause;
+      still = indices (read_ring who) found.prod found.cons found.still;
+    };
+    no_room = λ who found. record {
+      begun = found.begun;
+      stood = stands who found.begun found.stood;
+      loads = found.loads;
+      prod = found.prod;
+      cons = found.cons;
+      lacks = found.lacks;
+      still = indices (written_ring who) found.prod found.cons found.still;
+    };
+    peer_shut = λ who found. record { loads = found.loads; shut = found.shut; still = live who found.loads found.still };
+    stops = stops_still;
+    says_nothing = says_nothing_still;
+  }
 
 pub findings_stay_lem : FindingsStay
-findings_stay_lem before now old new rested = record {
-  indices = indices;
-  live = live;
-  gone = λ who loads still. still ∙ ap (λ (n : ℕ). Some n) (gone_stays before now old new rested who);
-  nothing = λ who found. record {
-    begun = found.begun;
-    stood = stands before now rested who found.begun found.stood;
-    most = found.most;
-    loads = found.loads;
-    prod = found.prod;
-    cons = found.cons;
-    cause = found.cause;
-    still = indices (read_ring who) found.prod found.cons found.still;
-  };
-  no_room = λ who found. record {
-    begun = found.begun;
-    stood = stands before now rested who found.begun found.stood;
-    loads = found.loads;
-    prod = found.prod;
-    cons = found.cons;
-    lacks = found.lacks;
-    still = indices (written_ring who) found.prod found.cons found.still;
-  };
-  peer_shut = λ who found. record { loads = found.loads; shut = found.shut; still = live who found.loads found.still };
-  stops = stops_still before now rested indices live;
-  says_nothing = says_nothing_still before now rested indices live;
-}
-  where
-    indices : (ring : Ring) (prod cons : ℕ) → AreIndices before ring prod cons → AreIndices now ring prod cons
-    indices ring prod cons still = (still.0 ∙ prod_stays before now old new rested ring, still.1 ∙ cons_stays before now old new rested ring)
-
-    live : (who : Role) (loads : Loads) → IsLiveStill before who loads → IsLiveStill now who loads
-    live who loads still = still ∙ ap (λ (n : ℕ). Some (low8 n)) (live_stays before now old new rested who)
+findings_stay_lem = keeps_findings

@@ -10,7 +10,7 @@ use Rattle.broker_task.specs.Lines.{is_shut}
 use Rattle.broker_task.specs.Moving.{all_held}
 use Rattle.standstill_laws.specs.Letters.{AreAtRest}
 use Rattle.standstill_laws.specs.Standstill.{IsShut as StaysShut, DomainStandsStill}
-use Rattle.standstill_laws.specs.Lasting.{SessionLasts, IsShut, AsCaller, AsServing, CallsAlone, ServesAlone, IsLeftAlone, DomainLasts, RunLasts, NoRunLasts}
+use Rattle.standstill_laws.specs.Lasting.{SessionLasts, IsShut, WithPeer, IsAlone, IsLeftAlone, DomainLasts, RunLasts, NoRunLasts}
 use Rattle.standstill_laws.proofs.MomentLaws.{moments_rest_lem}
 use Rattle.standstill_laws.proofs.PaceLaws.{no_session_rests_lem}
 use Rattle.standstill_laws.proofs.RestingLaws.{outboxes_are_empty_lem}
@@ -19,11 +19,9 @@ use Rattle.standstill_laws.proofs.StandstillLaws.{runs_do_not_stand_still_lem}
 
 is_shut_now : (s : Session) → SessionLasts s → is_open s ≡ false
 is_shut_now s (IsShut is) = is
-is_shut_now s (AsCaller first last c c' a a' is both) = absurd (no_session_rests_lem.both first last c c' a a' both)
-is_shut_now s (AsServing first last c c' a a' is both) = absurd (no_session_rests_lem.both first last c c' a a' both)
-is_shut_now s (CallsAlone first last n c c' is rests long retired) = absurd (let here : true ≡ false = sym retired ∙ no_session_rests_lem.caller first last n c c' rests long in cc)
-is_shut_now s (ServesAlone first last n a a' is rests long retired) = absurd (let here : true ≡ false = sym retired ∙ no_session_rests_lem.serving first last n a a' rests long in cc)
-is_shut_now s (IsLeftAlone who n from rests long) = absurd (omega (arith, long, no_session_rests_alone_lem who n from s rests))
+is_shut_now s (WithPeer first last who moments both is) = absurd (no_session_rests_lem.both first last moments both)
+is_shut_now s (IsAlone first last who n from to is rests long retired) = absurd (let here : true ≡ false = sym retired ∙ no_session_rests_lem.alone first last who n from to rests long in cc)
+is_shut_now s (IsLeftAlone who side n from to is rests long) = absurd (omega (arith, long, no_session_rests_alone_lem who side n from to rests))
 
 at_rest : (honest : ℕ → Bool) (was now then : BrokerState) → RunLasts honest was now then → AreAtRest now.lines
 at_rest honest was now then r place line there up =
@@ -49,30 +47,16 @@ stands_still_so honest was now then r place d up =
       line = d.line;
       there = d.there;
       up = up;
-      port = d.port;
-      port_is = d.port_is;
-      own = d.own;
-      attended = d.attended;
+      kept = d.kept;
       heard = d.heard;
       talks = d.talks up;
       task = d.task;
       domain = d.domain;
       count = d.count;
       agent = record {
-        tells = a.tells;
-        channel = a.channel;
-        channel_is = a.channel_is;
-        up = a.up;
-        end = a.end;
-        differ = a.differ;
-        given = a.given;
-        order = a.order;
-        before = a.before;
-        calls = a.calls;
-        some = a.some;
-        stops = a.stops;
-        still = (moments_rest_lem l.rests.first l.rests.last a.found.0 l.core a.found.1 l.between l.rests.rested).1.stops a.calls a.before a.channel a.stops a.found.2;
-        none_asked = a.none_asked;
+        agent = a.agent;
+        asks = a.asks;
+        still = (moments_rest_lem l.rests.first l.rests.last a.found.0 l.core a.found.1 l.between l.rests.rested).1.stops a.asks.calls a.asks.before a.agent.channel a.asks.stops a.found.2;
         sessions = λ i. StaysShut (is_shut_now (session_at d.task.sessions i) (a.sessions i));
       };
     }

@@ -1,7 +1,6 @@
 -- Once the broker is done its agents end soon, if each that isn't done has its turns.
-use Rattle.std.proofs.Common.{◌≡◌, ◌≢◌, ◌⊎◌, ℕ, ◌+◌, ◌-◌, ◌*◌, ◌<◌, ◌≤◌, ◌==◌, zero, suc, Bool, true, false, List, [], ◌∷◌, ◌++◌, length, length-append, append_assoc, None, refl, sym, ap, ◌∙◌, subst, arith, inl, inr}
+use Rattle.std.proofs.Common.{◌≡◌, ◌≢◌, ◌⊎◌, ℕ, ◌+◌, ◌-◌, ◌*◌, ◌<◌, ◌≤◌, Bool, true, false, List, [], ◌∷◌, ◌++◌, length, length-append, append_assoc, None, refl, sym, ap, ◌∙◌, subst, arith, inl, inr}
 use Rattle.std.specs.List.{AllByRecursion as Each}
-use Rattle.std.proofs.lemmas.Bool.Decides.{eqb_tells}
 use Rattle.list_laws.proofs.Each.{each_front, each_back}
 use Rattle.ring_words.specs.declared.page.Role.TheVariants.{Server}
 use Rattle.call_broker.specs.Domains.{Domains, count_of}
@@ -12,12 +11,13 @@ use Rattle.domain_task.specs.Working.{DoesNothing}
 use Rattle.standstill_laws.specs.Counting.{TurnMade, AreMade, NoStretchRests}
 use Rattle.standstill_laws.specs.Idle.{RunPage, RunPages, ChannelFound}
 use Rattle.standstill_laws.specs.Stretches.{turns_of}
-use Rattle.standstill_laws.specs.Leaving.{AgentStands, NoAgentLasts, IsFairTill, LeavingIsShort, IsFairRun, WholeTurnsAreBounded, WholeRunsAreBounded}
+use Rattle.standstill_laws.specs.Leaving.{AgentStands, NoAgentLasts, LeavingIsShort, IsFairRun, WholeTurnsAreBounded, WholeRunsAreBounded}
 use Rattle.standstill_laws.proofs.PaceLaws.{peer_was_there}
 use Rattle.standstill_laws.proofs.StandstillLaws.{none_opened}
-use Rattle.standstill_laws.proofs.StretchesLaws.{made_both, AgentTurn, agent_drain, agent_turn, session_shut}
-use Rattle.standstill_laws.proofs.FairLaws.{split_at, at_front, at_back, made_split, turns_append, stretches_are_short_lem}
-use Rattle.standstill_laws.proofs.AnswerLaws.{count_more}
+use Rattle.standstill_laws.proofs.StretchesLaws.{made_both, agent_drain, session_shut}
+use Rattle.standstill_laws.proofs.IdleLaws.{AgentTurn, agent_turn}
+use Rattle.standstill_laws.proofs.OwnLaws.{makes_one, turns_append}
+use Rattle.standstill_laws.proofs.FairLaws.{cut, rounds, made_split, stretches_are_short_lem}
 use Rattle.standstill_laws.proofs.CountingLaws.{turns_are_bounded_lem}
 use Rattle.standstill_laws.proofs.WorkLaws.{run_turns_are_bounded_lem}
 
@@ -46,25 +46,6 @@ no_agent_lasts_lem pages many first now turns place made a = omega (arith, λ (l
 
 -- ---- all agents
 
-till_rounds : (round : ℕ) (turns : List TurnMade) → IsFairTill round turns → (place k : ℕ) (before row after : List TurnMade) → turns ≡ before ++ row ++ after → 0 < turns_of place after → length row ≡ k * round → k ≤ turns_of place row
-till_rounds round turns fair place zero before row after parts later long = omega arith
-till_rounds round turns fair place (suc k) before row after parts later long =
-    let s = split_at round row (omega (arith, long)) in
-    let lengths = ap (λ (l : List TurnMade). length l) s.is ∙ length-append s.front s.back in
-    let still : 0 < turns_of place (s.back ++ after) = omega (arith, later, turns_append place s.back after) in
-    let one = fair before s.front (s.back ++ after) (at_front turns before row after s.front s.back parts s.is) s.long place still in
-    let others = till_rounds round turns fair place k (before ++ s.front) s.back after (at_back turns before row after s.front s.back parts s.is) later (omega (arith, long, lengths, s.long)) in
-    let sum = ap (turns_of place) s.is ∙ turns_append place s.front s.back in
-    omega (arith, one, others, sum)
-
--- a task that makes the next turn makes one of those behind
-makes_one : (place : ℕ) (made : TurnMade) (turns : List TurnMade) → made.place ≡ place → 0 < turns_of place (made ∷ turns)
-makes_one place made turns is = by (eqb_tells place made.place)
-  where
-    by : (((place == made.place) ≡ true) × (place ≡ made.place)) ⊎ (((place == made.place) ≡ false) × (place ≢ made.place)) → 0 < turns_of place (made ∷ turns)
-    by (inl same) = omega (arith, count_more (λ (m : TurnMade). place == m.place) made turns same.0)
-    by (inr other) = absurd (other.1 (sym is))
-
 -- the one turn of a list of that length
 record OneTurnOf (turns : List TurnMade) : Type 0 where
   made : TurnMade
@@ -79,15 +60,14 @@ pub leaving_is_short_lem : LeavingIsShort
 leaving_is_short_lem hub round first last turns made agents fair stand before resting after parts long nothing =
     let many = count_of hub + 1 in
     let did : TurnMade → Type 0 = λ (m : TurnMade). DoesNothing m.before m.now in
-    let s = split_at (8 * round) resting (omega (arith, long)) in
-    let lengths = ap (λ (l : List TurnMade). length l) s.is ∙ length-append s.front s.back in
-    let n = one_turn_of s.back (omega (arith, long, lengths, s.long)) in
-    let front = at_front turns before resting after s.front s.back parts s.is in
-    let all : turns ≡ before ++ s.front ++ n.made ∷ after = front ∙ ap (λ (l : List TurnMade). before ++ s.front ++ (l ++ after)) n.is in
+    let s = cut turns before resting after parts (8 * round) 1 long in
+    let n = one_turn_of s.back s.back_long in
+    let all : turns ≡ before ++ s.front ++ n.made ∷ after = s.at_front ∙ ap (λ (l : List TurnMade). before ++ s.front ++ (l ++ after)) n.is in
     let positive : 0 < n.made.place = (each_back (λ (m : TurnMade). 0 < m.place) (before ++ s.front) (n.made ∷ after) (subst (Each (λ (m : TurnMade). 0 < m.place)) all agents)).0 in
     let place : ℕ = n.made.place - 1 in
     let placed : n.made.place ≡ place + 1 = omega (arith, positive) in
-    let eight = till_rounds round turns fair (place + 1) 8 before s.front (n.made ∷ after) all (makes_one (place + 1) n.made after placed) s.long in
+    let eight = rounds (place + 1) round turns (λ behind. 0 < turns_of (place + 1) behind) (λ front behind later. omega (arith, later, turns_append (place + 1) front behind))
+    (λ ahead row behind parts long later. fair ahead row behind parts long (place + 1) later) 8 before s.front (n.made ∷ after) all (makes_one (place + 1) n.made after placed) s.front_long in
     let two = made_split many first last (before ++ s.front) (n.made ∷ after) (subst (λ (l : List TurnMade). AreMade many first l last) all made) in
     let one = made_split many first two.mid before s.front two.front in
     let idle = each_front did s.front s.back (subst (Each did) s.is nothing) in
@@ -117,16 +97,14 @@ cuts_before (x ∷ a) b (y ∷ p) q same less =
 no_stretch_in_both : (m n : ℕ) (a b : List TurnMade) → NoStretchRests m a → NoStretchRests n b → NoStretchRests (m + n) (a ++ b)
 no_stretch_in_both m n a b none none' before resting after parts long nothing =
     let did : TurnMade → Type 0 = λ (x : TurnMade). DoesNothing x.before x.now in
-    let s = split_at m resting (omega (arith, long)) in
-    let lengths = ap (λ (l : List TurnMade). length l) s.is ∙ length-append s.front s.back in
-    let back_long : length s.back ≡ n = omega (arith, long, lengths, s.long) in
+    let s = cut (a ++ b) before resting after parts m n long in
     let rests = subst (Each did) s.is nothing in
     let in_front : length (before ++ s.front) ≤ length a → ⊥ = λ (less : length (before ++ s.front) ≤ length a).
-    let c = cuts_before a b (before ++ s.front) (s.back ++ after) (at_front (a ++ b) before resting after s.front s.back parts s.is) less in
-    none before s.front c.between c.front s.long (each_front did s.front s.back rests) in
+    let c = cuts_before a b (before ++ s.front) (s.back ++ after) s.at_front less in
+    none before s.front c.between c.front s.front_long (each_front did s.front s.back rests) in
     let in_back : length a ≤ length (before ++ s.front) → ⊥ = λ (less : length a ≤ length (before ++ s.front)).
-    let c = cuts_before (before ++ s.front) (s.back ++ after) a b (sym (at_front (a ++ b) before resting after s.front s.back parts s.is)) less in
-    none' c.between s.back after (c.back ∙ sym (append_assoc c.between s.back after)) back_long (each_back did s.front s.back rests) in
+    let c = cuts_before (before ++ s.front) (s.back ++ after) a b (sym s.at_front) less in
+    none' c.between s.back after (c.back ∙ sym (append_assoc c.between s.back after)) s.back_long (each_back did s.front s.back rests) in
     omega (arith, in_front, in_back)
 
 whole_rests : (hub : Domains) (honest : ℕ → Bool) (round : ℕ) (first mid last : ℕ → Task) (during afterwards : List TurnMade) → IsFairRun hub honest round first mid last during afterwards → NoStretchRests (16 * round + 1) (during ++ afterwards)

@@ -20,6 +20,8 @@ mod PriceLaws
 mod TrafficLaws
 mod WorkLaws
 mod KeepingLaws
+mod OwnLaws
+mod SideLaws
 mod StretchLaws
 mod MomentLaws
 mod PaceLaws

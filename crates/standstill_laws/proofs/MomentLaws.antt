@@ -1,11 +1,15 @@
 -- A page that rested from one moment to another did so between any two moments between them.
 use Rattle.std.proofs.Common.{◌≡◌, ◌≢◌, Bool, true, false, refl, sym, ◌∙◌, arith}
+use Rattle.ring_words.specs.declared.page.Role.{Role}
+use Rattle.ring_words.specs.declared.page.Role.TheVariants.{Server, Client}
 use Rattle.vchan_protocol.specs.declared.call.EndState.{EndState}
 use Rattle.vchan_protocol.specs.declared.call.EndState.TheVariants.{Fresh, Open, Shut}
 use Rattle.vchan_protocol.specs.declared.side.Side.{Side}
 use Rattle.vchan_protocol.specs.History.Core.{Core, side_of}
+use Rattle.vchan_protocol.specs.History.Peer.{peer}
+use Rattle.vchan_protocol.specs.Honest.Lawful.{Lawful}
 use Rattle.standstill_laws.specs.Keeping.{EndRested, PageRested}
-use Rattle.standstill_laws.specs.Moments.{EndGoesOn, IsBetween, MomentsRest}
+use Rattle.standstill_laws.specs.Moments.{EndGoesOn, PageGoesOn, IsBetween, MomentsRest}
 use Rattle.standstill_laws.proofs.KeepingLaws.{findings_stay_lem}
 
 -- ---- one end
@@ -71,3 +75,21 @@ end_goes_on before now rested = record {
 
 pub same_end : (s : Side) → EndRested s s
 same_end s = record { got = refl; sent = refl; state = refl; retired = refl }
+
+-- a page at one moment
+pub page_same : (core : Core) → Lawful core → PageGoesOn core core
+page_same core lawful = record {
+  moments = record { lawful = lawful; lawful_now = lawful; start = refl; orders = refl };
+  ends = λ who. end_goes_on (side_of core who) (side_of core who) (same_end (side_of core who));
+}
+
+-- what holds of an end and of its peer holds of each
+pub each_role : (P : Role → Type 0) (who : Role) → P who → P (peer who) → (whose : Role) → P whose
+each_role P Server mine its Server = mine
+each_role P Server mine its Client = its
+each_role P Client mine its Client = mine
+each_role P Client mine its Server = its
+
+-- an end that isn't shut at the last moment is shut at none between
+pub not_shut : (first last mid : Core) → IsBetween first last mid → (who : Role) → (side_of last who).state ≢ Shut → (side_of mid who).state ≢ Shut
+not_shut first last mid is who up shut = up ((is.until.ends who).shut shut)

@@ -1,6 +1,7 @@
 -- Where the page of a session stands still, both sides are over; where the peer has left, it doesn't.
-use Rattle.std.proofs.Common.{◌≡◌, ℕ, true, false, Bool, refl, sym, ap, ◌∙◌, subst, Some}
+use Rattle.std.proofs.Common.{◌≡◌, ℕ, true, Bool, refl, sym, ap, ◌∙◌, subst, Some}
 use Rattle.std.specs.Prelude.{if◌then◌else◌}
+use Rattle.std.proofs.lemmas.Bool.{false_from_ne_true}
 use Rattle.ring_words.specs.declared.page.Role.{Role}
 use Rattle.ring_words.specs.declared.page.Role.TheVariants.{Server, Client}
 use Rattle.service_gate.specs.Owing.{builtin_owes}
@@ -14,7 +15,8 @@ use Rattle.vchan_protocol.specs.Honest.RingLaw.{word_at}
 use Rattle.vchan_protocol.specs.History.Peer.{peer}
 use Rattle.vchan_rule.specs.Seated.{SeatedEnd}
 use Rattle.vchan_lifecycle.specs.Lifecycle.{FindsNotYet}
-use Rattle.standstill_laws.specs.Sessions.{IsGoneStill, CallIsQuiet, CallIsOver, ServingIsQuiet, ServingIsOver, NoSessionIsOpen, CallWasQuiet, ServingWasQuiet, NoSessionIsLeftAlone, PeerIsThere}
+use Rattle.standstill_laws.specs.Sides.{quiet_by}
+use Rattle.standstill_laws.specs.Sessions.{IsGoneStill, IsQuietNow, IsOverNow, NoSessionIsOpen, WasQuiet, NoSessionIsLeftAlone, PeerIsThere}
 use Rattle.standstill_laws.proofs.TurnLaws.{no_session_stands_still_lem}
 use Rattle.qrexec_data.specs.Laws.{IsVersion}
 
@@ -44,35 +46,26 @@ not_retired core who before now lawful f still retired =
     cc
 
 pub no_session_is_left_alone_lem : NoSessionIsLeftAlone
-no_session_is_left_alone_lem core who s left (CallWasQuiet before now turn still) = left (not_left core who turn.2.found turn.2.left turn.2.not_yet still)
-no_session_is_left_alone_lem core who s left (ServingWasQuiet before now turn still) = left (not_left core who turn.2.found turn.2.left turn.2.not_yet still)
+no_session_is_left_alone_lem core who s left (WasQuiet side before now turn still) =
+    let q = quiet_by side before now turn in
+    left (not_left core who q.found q.left q.not_yet still)
 
 pub no_session_is_open_lem : NoSessionIsOpen
-no_session_is_open_lem core calling serving c s lawful calling_is serving_is (CallIsOver end retired) (ServingIsOver end' retired') = (refl, refl)
-no_session_is_open_lem core calling serving c s lawful calling_is serving_is (CallIsQuiet before now stands undecided upright turn still gone) (ServingIsOver end retired) =
-    absurd (not_retired core Server turn.2.found turn.2.left lawful turn.2.not_yet gone retired)
-no_session_is_open_lem core calling serving c s lawful calling_is serving_is (CallIsOver end retired) (ServingIsQuiet before now stands undecided upright turn still gone) =
-    absurd (not_retired core Client turn.2.found turn.2.left lawful turn.2.not_yet gone retired)
-no_session_is_open_lem core calling serving c s lawful calling_is serving_is (CallIsQuiet before now stands undecided upright turn still gone) (ServingIsQuiet before' now' stands' undecided' upright' turn' still' gone') =
+no_session_is_open_lem core calling serving c s lawful calling_is serving_is (IsOverNow end retired) (IsOverNow end' retired') = (refl, refl)
+no_session_is_open_lem core calling serving c s lawful calling_is serving_is (IsQuietNow before now stands quiet gone) (IsOverNow end retired) =
+    absurd (not_retired core Server quiet.turn.2.found quiet.turn.2.left lawful quiet.turn.2.not_yet gone retired)
+no_session_is_open_lem core calling serving c s lawful calling_is serving_is (IsOverNow end retired) (IsQuietNow before now stands quiet gone) =
+    absurd (not_retired core Client quiet.turn.2.found quiet.turn.2.left lawful quiet.turn.2.not_yet gone retired)
+no_session_is_open_lem core calling serving c s lawful calling_is serving_is (IsQuietNow before now stands quiet gone) (IsQuietNow before' now' stands' quiet' gone') =
     absurd (no_session_stands_still_lem core (builtin_owes stands'.2.0) before now before' now' (record {
       lawful = lawful;
-      server_opened = upright;
-      client_opened = upright';
       calls = stands.0;
       serves = stands'.2.1;
       caller_version = subst IsVersion (sym stands.1) calling_is;
       serving_version = subst IsVersion (sym stands'.1) serving_is;
-      caller_undecided = undecided;
-      serving_undecided = undecided';
-      caller_turn = turn;
-      serving_turn = turn';
-      caller_still = still;
-      serving_still = still';
+      caller = quiet;
+      serving = quiet';
     }))
 
 pub peer_is_there_lem : PeerIsThere
-peer_is_there_lem core who before now lawful f still = by_flag (side_of core (peer who)).retired refl
-  where
-    by_flag : (b : Bool) → (side_of core (peer who)).retired ≡ b → b ≡ false
-    by_flag true is = absurd (not_retired core who before now lawful f still is)
-    by_flag false is = refl
+peer_is_there_lem core who before now lawful f still = false_from_ne_true (side_of core (peer who)).retired (not_retired core who before now lawful f still)

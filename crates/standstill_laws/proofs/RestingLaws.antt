@@ -3,7 +3,6 @@ use Rattle.std.proofs.Common.{◌≡◌, ◌≢◌, ◌⊎◌, ℕ, ◌≤◌, L
 use Rattle.std.specs.Prelude.{IsSome}
 use Rattle.ring_words.specs.declared.page.Role.{Role}
 use Rattle.ring_words.specs.declared.page.Role.TheVariants.{Server, Client}
-use Rattle.vchan_protocol.specs.declared.call.EndState.TheVariants.{Shut}
 use Rattle.vchan_protocol.specs.Table.Ends.{read_ring}
 use Rattle.vchan_protocol.specs.Answering.Loads.{loads_of}
 use Rattle.vchan_protocol.specs.History.Core.{Core, standing_of}
@@ -23,7 +22,7 @@ use Rattle.standstill_laws.specs.Moments.{IsBetween}
 use Rattle.standstill_laws.specs.Resting.{DrainBetween, HearsBetween, LineRests, OutboxesAreEmpty}
 use Rattle.standstill_laws.proofs.PageLaws.{all_got, no_lack, found_shut}
 use Rattle.standstill_laws.proofs.SayingLaws.{fails_not}
-use Rattle.standstill_laws.proofs.MomentLaws.{moments_rest_lem}
+use Rattle.standstill_laws.proofs.MomentLaws.{moments_rest_lem, not_shut}
 
 -- ---- a page at a moment between
 
@@ -40,12 +39,6 @@ drain_found first last mid rested is who before now f d = record {
   still = (moments_rest_lem first last d.found.0 mid d.found.1 is rested).1.indices (read_ring who) f.prod f.cons d.found.2;
 }
 
-server_not_shut : (first last mid : Core) → IsBetween first last mid → last.server.state ≢ Shut → mid.server.state ≢ Shut
-server_not_shut first last mid is up shut = up ((is.until.ends Server).shut shut)
-
-client_not_shut : (first last mid : Core) → IsBetween first last mid → last.client.state ≢ Shut → mid.client.state ≢ Shut
-client_not_shut first last mid is up shut = up ((is.until.ends Client).shut shut)
-
 -- where the agent's drain found nothing, the broker's end lacks no room, and finds its peer shut at no moment
 record CanSay (mid : Core) : Type 0 where
   room : ¬ FoundNoRoom mid Client
@@ -55,7 +48,7 @@ can_say : (before after : List BrokerLine) (place : ℕ) (line : BrokerLine) →
 can_say before after place line r mid is =
     let lawful = is.since.moments.lawful_now in
     let found = drain_found r.first r.last mid r.rested is Server r.began r.heard r.not_yet r.agent_found in
-    record { room = no_lack mid Client lawful (all_got mid Server lawful found); up = λ f. server_not_shut r.first r.last mid is r.server_up (found_shut mid lawful Client f) }
+    record { room = no_lack mid Client lawful (all_got mid Server lawful found); up = λ f. not_shut r.first r.last mid is Server r.server_up (found_shut mid lawful Client f) }
 
 -- ---- letters
 
@@ -98,8 +91,8 @@ outboxes_are_empty_lem before now after holds each place line there up = (none, 
         let r = each place line there up in
         record {
           lawful = is.since.moments.lawful_now;
-          server_opened = server_not_shut r.first r.last core is r.server_up;
-          client_opened = client_not_shut r.first r.last core is r.client_up;
+          server_opened = not_shut r.first r.last core is Server r.server_up;
+          client_opened = not_shut r.first r.last core is Client r.client_up;
           server_found = drain_found r.first r.last core r.rested is Server r.began r.heard r.not_yet r.agent_found;
           client_found = broker_drained r.first r.last core r.rested is r.old.version r.turn.letters r.turn.hears.began r.turn.heard (none_before r.turn.letters line.letters r.turn.after none) r.turn.hears.finds r.turn_found.hears;
         }

@@ -2,7 +2,7 @@
 use Rattle.std.proofs.Common.{◌≡◌, ℕ, ◌<◌, ◌≤◌, List, [], ◌∷◌, ◌++◌, refl, ap, sym, ◌∙◌, subst, inl, inr, append_assoc, Some, None, Option, arith}
 use Rattle.std.specs.Prelude.{◌⊎◌, Bool, true, false, ◌==◌, ◌&&◌, ◌||◌, not, min, max, filter, if◌then◌else◌}
 use Rattle.std.specs.List.{list_any, cons_option}
-use Rattle.std.proofs.lemmas.Bool.{cases_lt, or_right}
+use Rattle.std.proofs.lemmas.Bool.{cases_lt, or_right, or_parts}
 use Rattle.std.proofs.lemmas.Bool.Decides.{nat_tests}
 use Rattle.std.proofs.lemmas.List.{append-nil}
 use Rattle.call_broker.specs.declared.event.Event.{Event}
@@ -88,13 +88,9 @@ step_own hub before f t e p none apart true is =
     let same : decides hub (Ordered f t) (state_after hub before (Ordered f t)) e ≡ decision hub before e = ap (λ (q : Pair). decides hub q (state_after hub before q) e) (sym pair) in
     settles_none (state_after hub before (Ordered f t)) e (decides hub (Ordered f t) (state_after hub before (Ordered f t)) e) p none (λ to port accepted. other pair to port (sym same ∙ accepted))
   where
-    or_first : (b : Bool) → (b || false) ≡ false → b ≡ false
-    or_first true h = cc
-    or_first false h = refl
-
     other : pair_of hub e ≡ Ordered f t → (to port : ℕ) → decision hub before e ≡ Accepted to port → (port == p) ≡ false
     other pair to port accepted =
-        or_first (port == p) (subst (λ (o : Option ℕ). has p (cons_option o []) ≡ false) (ap (λ (x : Decision). port_in f t e x) accepted ∙ accepts_in hub before f t e to port pair accepted) apart)
+        (or_parts (port == p) false (subst (λ (o : Option ℕ). has p (cons_option o []) ≡ false) (ap (λ (x : Decision). port_in f t e x) accepted ∙ accepts_in hub before f t e to port pair accepted) apart)).0
 
 step_none : (hub : Domains) (before : List Event) (f t : ℕ) (e : Event) (p : ℕ) → has p (state_after hub before (Ordered f t)).live ≡ false → has p (cons_option (port_in f t e (decision hub before e)) []) ≡ false
     → has p (step hub (Ordered f t) (state_after hub before (Ordered f t)) e).live ≡ false

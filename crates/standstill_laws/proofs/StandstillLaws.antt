@@ -4,7 +4,7 @@ use Rattle.std.specs.Prelude.{◌⊎◌, nat_le, filter_map, IsSomeAnd, IsPermut
 use Rattle.std.proofs.lemmas.Bool.Decides.{nat_tests}
 use Rattle.std.specs.List.{AllByRecursion as Each}
 use Rattle.std.proofs.lemmas.Bool.{and_parts}
-use Rattle.ring_words.specs.declared.page.Role.TheVariants.{Server}
+use Rattle.ring_words.specs.declared.page.Role.TheVariants.{Server, Client}
 use Rattle.vchan_protocol.specs.History.Core.{Core}
 use Rattle.qrexec_frame.specs.declared.message.Message.{Message}
 use Rattle.call_broker.specs.declared.decision.Entry.{Entry}
@@ -22,7 +22,7 @@ use Rattle.standstill_laws.specs.Control.{Talks}
 use Rattle.standstill_laws.specs.Letters.{AreAtRest}
 use Rattle.standstill_laws.specs.Asking.{heard_so_far, HearsInOrder, HasAskedAll}
 use Rattle.standstill_laws.specs.Settling.{IsDone}
-use Rattle.standstill_laws.specs.Standstill.{SessionStandsStill, IsShut, AsCaller, AsServing, IsLeftAlone, AgentStandsStill, DomainStandsStill, RunsDoNotStandStill, NoAgentIsLeft}
+use Rattle.standstill_laws.specs.Standstill.{SessionStandsStill, IsShut, WithPeer, IsLeftAlone, AgentIsUp, AsksForNone, DomainStandsStill, RunsDoNotStandStill, NoAgentIsLeft}
 use Rattle.standstill_laws.proofs.SayingLaws.{agents_have_said_all_lem}
 use Rattle.standstill_laws.proofs.LetterLaws.{all_answers_are_said_lem, all_answers_are_heard_lem}
 use Rattle.standstill_laws.proofs.AnswerLaws.{all_calls_are_answered_lem, broker_reads}
@@ -41,8 +41,8 @@ ended_shut _ is = cc
 
 rests_shut : (version : ℕ) (s : Session) → IsVersion version → SessionStandsStill version s → is_open s ≡ false
 rests_shut version s own (IsShut is) = is
-rests_shut version s own (AsCaller core other peer lawful theirs mine yours) = ended_shut s (no_session_is_open_lem core version other s peer lawful own theirs mine yours).0
-rests_shut version s own (AsServing core other peer lawful theirs yours mine) = ended_shut s (no_session_is_open_lem core other version peer s lawful theirs own yours mine).1
+rests_shut version s own (WithPeer core Server other its lawful theirs mine yours) = ended_shut s (no_session_is_open_lem core version other s its lawful own theirs mine yours).0
+rests_shut version s own (WithPeer core Client other its lawful theirs mine yours) = ended_shut s (no_session_is_open_lem core other version its s lawful theirs own yours mine).1
 rests_shut version s own (IsLeftAlone core who left quiet) = absurd (no_session_is_left_alone_lem core who s left quiet)
 
 pub none_opened : (task : AgentState) (opened : List (ℕ × ℕ)) → Each (IsOpenSession task) opened → ((i : ℕ) → is_open (session_at task.sessions i) ≡ false) → opened ≡ []
@@ -62,15 +62,18 @@ done hub awaited journal said lines decided holds kept rest place up r = record 
   triggers = all.asked;
   told = all.told;
   hears = hears;
-  reads = r.attended.reads ∙ ap (filter_map (event_of (place + 1))) (broker_reads hub journal said lines rest place r.line r.there r.up a.channel.port r.port sent heard r.heard r.port_is r.own talks r.talks);
+  reads = r.kept.attended.reads ∙ ap (filter_map (event_of (place + 1))) (broker_reads hub journal said lines rest place r.line r.there r.up a.channel.port r.kept.port sent heard r.heard r.kept.port_is r.kept.own talks r.talks);
   all_said = (all_answers_are_said_lem hub journal said lines holds kept rest place r.line r.there r.up).1;
 }
   where
     core : Core
     core = (rest place r.line r.there r.up).core
 
-    a : AgentStandsStill hub journal core r.task
-    a = r.agent
+    a : AgentIsUp hub journal core r.task
+    a = r.agent.agent
+
+    asks : AsksForNone a.channel
+    asks = r.agent.asks
 
     sent : List Message
     sent = a.tells.once.said
@@ -85,22 +88,22 @@ done hub awaited journal said lines decided holds kept rest place up r = record 
     talks = record { end = a.end; talker_is = channel.talker; own = subst IsVersion (sym channel.own) a.tells.acts.version; says = channel.says; hears = channel.hears }
 
     hears : IsPermutation heard (outbox hub journal (place + 1))
-    hears = all_answers_are_heard_lem hub journal said lines holds kept rest place r.line r.there r.up a.channel.port r.port sent heard r.heard r.port_is talks r.talks
+    hears = all_answers_are_heard_lem hub journal said lines holds kept rest place r.line r.there r.up a.channel.port r.kept.port sent heard r.heard r.kept.port_is talks r.talks
 
     in_order : HearsInOrder r.task sent
     in_order =
         agents_hear_in_order_lem hub journal r.task a.tells a.channel a.channel_is decided a.differ (subst (λ (d : ℕ). IsPermutation heard (outbox hub journal d)) (sym r.domain) hears) a.given
-        (all_calls_are_answered_lem hub journal said lines decided holds kept rest place r.line r.there r.up up a.channel.port r.port sent heard r.heard r.port_is r.own r.attended talks r.talks) a.order
+        (all_calls_are_answered_lem hub journal said lines decided holds kept rest place r.line r.there r.up up a.channel.port r.kept.port sent heard r.heard r.kept.port_is r.kept.own r.kept.attended talks r.talks) a.order
 
-    said_all : (a.channel.unsaid.items ≡ []) × (IsHeld a.channel.queue ⊎ (a.channel.queue.next ≡ a.before.queue.next + a.calls))
-    said_all = agents_have_said_all_lem core a.calls a.before a.channel (rest place r.line r.there r.up).page a.stops a.still
+    said_all : (a.channel.unsaid.items ≡ []) × (IsHeld a.channel.queue ⊎ (a.channel.queue.next ≡ asks.before.queue.next + asks.calls))
+    said_all = agents_have_said_all_lem core asks.calls asks.before a.channel (rest place r.line r.there r.up).page asks.stops r.agent.still
 
-    held : IsHeld a.channel.queue ⊎ (a.channel.queue.next ≡ a.before.queue.next + a.calls) → IsHeld a.channel.queue
+    held : IsHeld a.channel.queue ⊎ (a.channel.queue.next ≡ asks.before.queue.next + asks.calls) → IsHeld a.channel.queue
     held (inl is) = is
-    held (inr more) = absurd (omega (arith, more, a.none_asked, a.some))
+    held (inr more) = absurd (omega (arith, more, asks.none_asked, asks.some))
 
     shut : r.task.opened ≡ []
-    shut = none_opened r.task r.task.opened a.tells.acts.opened (λ i. rests_shut r.task.plan.version (session_at r.task.sessions i) a.tells.acts.version (a.sessions i))
+    shut = none_opened r.task r.task.opened a.tells.acts.opened (λ i. rests_shut r.task.plan.version (session_at r.task.sessions i) a.tells.acts.version (r.agent.sessions i))
 
     all : HasAskedAll r.task sent
     all = agents_have_asked_all_lem r.task a.tells a.channel a.channel_is a.up shut said_all.0 (held said_all.1) a.differ in_order

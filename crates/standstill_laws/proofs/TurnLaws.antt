@@ -48,9 +48,8 @@ peer_is_shut core Server lawful saw = lawful.lives.server_sight.saw saw
 peer_is_shut core Client lawful saw = lawful.lives.client_sight.saw saw
 
 -- the drain of a quiet turn that is still so
-pub found_nothing : (core : Core) (who : Role) (still : Type 0) (waiting : List ℕ) (was_shut : Bool) (before now : SeatedEnd) (q : IsQuiet still waiting was_shut before now) → Lawful core
-    → IsQuietStill core who still waiting was_shut before now q → FoundNothing core who
-found_nothing core who still waiting was_shut before now q lawful h = record {
+pub found_nothing : (core : Core) (who : Role) {still : Type 0} {waiting : List ℕ} {was_shut : Bool} {before now : SeatedEnd} (q : IsQuiet still waiting was_shut before now) → Lawful core → IsQuietStill core who q → FoundNothing core who
+found_nothing core who {now = now} q lawful h = record {
   begun = standing_of q.found.side;
   stood = stood core who q.found now lawful (q.same_now.0 ∙ q.same_left.0, q.same_now.1 ∙ q.same_left.1, q.same_now.2 ∙ q.same_left.2, q.same_now.3 ∙ q.same_left.3) h.is_now;
   most = q.not_yet.most;
@@ -62,12 +61,12 @@ found_nothing core who still waiting was_shut before now q lawful h = record {
 }
 
 -- where the page stands still and the peer is open, nothing went since there was nothing to send
-pub nothing_waits : (core : Core) (who : Role) (still : Type 0) (waiting : List ℕ) (was_shut : Bool) (before now : SeatedEnd) → Lawful core → StandsStill core → (side_of core (peer who)).state ≢ Shut
-    → IsSameEnd before now → now.side ≡ side_of core who → (sends : SendsNone still waiting was_shut before now) → SendsStill core who still waiting was_shut before now sends → still
-nothing_waits core who still waiting was_shut before now lawful page there same is (NothingWaits none kept) h = none
-nothing_waits core who still waiting was_shut before now lawful page there same is (WasShut was saw kept) h =
+sends_nothing : (core : Core) (who : Role) {still : Type 0} {waiting : List ℕ} {was_shut : Bool} {before now : SeatedEnd} → Lawful core → StandsStill core → (side_of core (peer who)).state ≢ Shut
+    → IsSameEnd before now → now.side ≡ side_of core who → (sends : SendsNone still waiting was_shut before now) → SendsStill core who sends → still
+sends_nothing core who lawful page there same is (NothingWaits none kept) h = none
+sends_nothing core who lawful page there same is (WasShut was saw kept) h =
     absurd (there (peer_is_shut core who lawful (sym (ap (λ (x : Side). x.saw) is) ∙ ap (λ (e : SeatedEnd). e.side.saw) kept ∙ saw)))
-nothing_waits core who still waiting was_shut before now lawful page there same is (RingIsFull some full) h =
+sends_nothing core who {waiting = waiting} {before = before} {now = now} lawful page there same is (RingIsFull some full) h =
     absurd (page.has_room who (record {
       begun = standing_of before.side;
       stood = stood core who before now lawful same is;
@@ -77,41 +76,30 @@ nothing_waits core who still waiting was_shut before now lawful page there same 
       lacks = IsFull (most_asked waiting) full.cause;
       still = h;
     }))
-nothing_waits core who still waiting was_shut before now lawful page there same is (PeerIsShut some shut) h =
+sends_nothing core who {waiting = waiting} {before = before} {now = now} lawful page there same is (PeerIsShut some shut) h =
     absurd (there (page.is_shut who (record {
       loads = loads_of (standing_of before.side) now.side.trail;
       shut = closed_by (standing_of before.side) (most_asked waiting) (loads_of (standing_of before.side) now.side.trail) shut.cause;
       still = h;
     })))
 
+pub nothing_waits : (core : Core) (who : Role) {still : Type 0} {waiting : List ℕ} {was_shut : Bool} {before now : SeatedEnd} (q : IsQuiet still waiting was_shut before now) → Lawful core → StandsStill core → (side_of core (peer who)).state ≢ Shut
+    → IsQuietStill core who q → still
+nothing_waits core who q lawful page there h = sends_nothing core who lawful page there q.same_now h.is_now q.sends h.sends
+
 pub no_session_stands_still_lem : NoSessionStandsStill
 no_session_stands_still_lem core owed c c' s s' b =
     sessions_go_on_lem Builtin builtin_owes owed c.caller s.serving core.server.sent core.client.sent
     (record {
-      calls = subst (λ sent. CallerStandsFor c.caller sent) caller_sent b.calls.stands;
-      serves = subst (λ sent. ServingStandsFor builtin_owes owed s.serving sent) serving_sent b.serves.stands;
-      caller_got = b.calls.got ∙ caller_got ∙ page.server_got;
-      serving_got = b.serves.got ∙ serving_got ∙ page.client_got;
+      calls = subst (λ sent. CallerStandsFor c.caller sent) (sym b.caller.turn.0.1 ∙ ap (λ (x : Side). x.sent) b.caller.still.is_now) b.calls.stands;
+      serves = subst (λ sent. ServingStandsFor builtin_owes owed s.serving sent) (sym b.serving.turn.0.1 ∙ ap (λ (x : Side). x.sent) b.serving.still.is_now) b.serves.stands;
+      caller_got = b.calls.got ∙ sym b.caller.turn.0.0 ∙ ap (λ (x : Side). x.got) b.caller.still.is_now ∙ page.server_got;
+      serving_got = b.serves.got ∙ sym b.serving.turn.0.0 ∙ ap (λ (x : Side). x.got) b.serving.still.is_now ∙ page.client_got;
       caller_version = b.caller_version;
       serving_version = b.serving_version;
-      caller_undecided = b.caller_undecided;
-      serving_undecided = b.serving_undecided;
-    }) (
-      nothing_waits core Server _ _ _ _ _ b.lawful page b.client_opened b.caller_turn.2.same_now b.caller_still.is_now b.caller_turn.2.sends b.caller_still.sends,
-      nothing_waits core Client _ _ _ _ _ b.lawful page b.server_opened b.serving_turn.2.same_now b.serving_still.is_now b.serving_turn.2.sends b.serving_still.sends owed b.serves,
-    )
+      caller_undecided = b.caller.undecided;
+      serving_undecided = b.serving.undecided;
+    }) (nothing_waits core Server b.caller.turn.2 b.lawful page b.serving.opened b.caller.still, nothing_waits core Client b.serving.turn.2 b.lawful page b.caller.opened b.serving.still owed b.serves)
   where
     page : StandsStill core
-    page = stands_still core b.lawful (found_nothing core Server _ _ _ _ _ b.caller_turn.2 b.lawful b.caller_still) (found_nothing core Client _ _ _ _ _ b.serving_turn.2 b.lawful b.serving_still)
-
-    caller_sent : c.end.side.sent ≡ core.server.sent
-    caller_sent = sym b.caller_turn.0.1 ∙ ap (λ (x : Side). x.sent) b.caller_still.is_now
-
-    caller_got : c.end.side.got ≡ core.server.got
-    caller_got = sym b.caller_turn.0.0 ∙ ap (λ (x : Side). x.got) b.caller_still.is_now
-
-    serving_sent : s.end.side.sent ≡ core.client.sent
-    serving_sent = sym b.serving_turn.0.1 ∙ ap (λ (x : Side). x.sent) b.serving_still.is_now
-
-    serving_got : s.end.side.got ≡ core.client.got
-    serving_got = sym b.serving_turn.0.0 ∙ ap (λ (x : Side). x.got) b.serving_still.is_now
+    page = stands_still core b.lawful (found_nothing core Server b.caller.turn.2 b.lawful b.caller.still) (found_nothing core Client b.serving.turn.2 b.lawful b.serving.still)

@@ -1,6 +1,6 @@
 -- Hostile domains at a standstill: each of their turns is one of their acts; sessions with those that have left end, and the broker drops them.
 -- Source: this project's own.
-use Rattle.std.specs.Prelude.{◌≡◌, ℕ, ◌<◌, zero, suc, true, List}
+use Rattle.std.specs.Prelude.{◌≡◌, ℕ, ◌<◌, true, List}
 use Rattle.std.specs.List.{AllByRecursion as Each}
 use Rattle.list_laws.specs.Lists.{SomeOf}
 use Rattle.ring_words.specs.declared.page.Role.{Role}
@@ -8,33 +8,27 @@ use Rattle.ring_words.specs.declared.page.Role.TheVariants.{Client}
 use Rattle.vchan_protocol.specs.Answering.Loads.{loads_of}
 use Rattle.vchan_protocol.specs.History.Core.{Core, standing_of}
 use Rattle.vchan_rule.specs.Seated.{view}
-use Rattle.channel_session.specs.declared.pause.Turned.TheVariants.{Quiet, Passed}
-use Rattle.channel_session.specs.Calling.{CallerAt, CallerTurns}
-use Rattle.channel_session.specs.Answering.{ServingAt, ServingTurns}
-use Rattle.agent_slots.specs.Sessions.{Session, CallsWith, ServesWith}
+use Rattle.channel_session.specs.declared.pause.Turned.TheVariants.{Quiet}
 use Rattle.broker_task.specs.Lines.{is_shut}
 use Rattle.broker_task.specs.Moving.{BrokerLine, HasMoved, IsQuiet, HasTurned}
 use Rattle.domain_task.specs.declared.task.Task.{Task}
 use Rattle.domain_task.specs.declared.task.Task.TheVariants.{Hostile}
 use Rattle.domain_task.specs.Working.{DoesNothing}
 use Rattle.standstill_laws.specs.Counting.{TurnMade, AreMade}
-use Rattle.standstill_laws.specs.Sessions.{IsGoneStill, PeerHasLeft}
+use Rattle.standstill_laws.specs.Sides.{SideAt, SideTurns, quiet_by, SideRests}
+use Rattle.standstill_laws.specs.Sessions.{IsGoneStill, IsGoneStillIn, PeerHasLeft}
 
 -- ---- sessions
 
--- so many turns in a row of a session, in each of which nothing moved: it was quiet, and the gone word of the peer that its drain loaded was that of the page at a moment when the peer had left; or it was passed over
-pub data RestsAlone (who : Role) : ℕ → Session → Session → Type 0 where
-  NoneMade : (s : Session) → RestsAlone who zero s s
-  CallQuiet : (n : ℕ) (core : Core) (before now : CallerAt) (last : Session) (turn : CallerTurns Quiet before now) → PeerHasLeft core who → IsGoneStill core who (loads_of (standing_of turn.2.found.side) turn.2.left.side.trail)
-      → RestsAlone who n (CallsWith now) last → RestsAlone who (suc n) (CallsWith before) last
-  CallPassed : (n : ℕ) (before now : CallerAt) (last : Session) → CallerTurns Passed before now → RestsAlone who n (CallsWith now) last → RestsAlone who (suc n) (CallsWith before) last
-  ServingQuiet : (n : ℕ) (core : Core) (before now : ServingAt) (last : Session) (turn : ServingTurns Quiet before now) → PeerHasLeft core who → IsGoneStill core who (loads_of (standing_of turn.2.found.side) turn.2.left.side.trail)
-      → RestsAlone who n (ServesWith now) last → RestsAlone who (suc n) (ServesWith before) last
-  ServingPassed : (n : ℕ) (before now : ServingAt) (last : Session) → ServingTurns Passed before now → RestsAlone who n (ServesWith now) last → RestsAlone who (suc n) (ServesWith before) last
+-- a quiet turn of a side of a session, whose drain loaded the gone word of the peer that the page had at a moment when the peer had left
+pub record FoundLeft (who side : Role) (before now : SideAt side) (turn : SideTurns side Quiet before now) : Type 0 where
+  pub core : Core
+  pub left : PeerHasLeft core who
+  pub still : IsGoneStillIn core who (quiet_by side before now turn)
 
--- there aren't eight: the next one moves something, or the session is over
+-- there aren't eight turns in a row in which nothing moved, and each quiet one found that: the next one moves something, or the session is over
 abbrev pub NoSessionRestsAlone : Type 0
-NoSessionRestsAlone = (who : Role) (n : ℕ) (first last : Session) → RestsAlone who n first last → n < 8
+NoSessionRestsAlone = (who side : Role) (n : ℕ) (from to : SideAt side) → SideRests side (FoundLeft who side) n from to → n < 8
 
 -- ---- the broker
 

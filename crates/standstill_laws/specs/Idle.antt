@@ -9,9 +9,7 @@ use Rattle.vchan_protocol.specs.History.Core.{Core, standing_of}
 use Rattle.vchan_rule.specs.Seated.{view}
 use Rattle.task_pool.specs.declared.task.Turn.TheVariants.{Again}
 use Rattle.channel_session.specs.declared.pause.Turned.{Turned}
-use Rattle.channel_session.specs.declared.pause.Turned.TheVariants.{Moved, Quiet, Passed}
-use Rattle.channel_session.specs.Calling.{CallerAt, CallerTurns}
-use Rattle.channel_session.specs.Answering.{ServingAt, ServingTurns}
+use Rattle.channel_session.specs.declared.pause.Turned.TheVariants.{Quiet}
 use Rattle.agent_control.specs.declared.control.AgentControl.{AgentControl}
 use Rattle.agent_slots.specs.Sessions.{Session, session_at}
 use Rattle.agent_task.specs.State.{AgentState}
@@ -23,7 +21,8 @@ use Rattle.domain_task.specs.declared.task.Task.TheVariants.{Agent, Broker}
 use Rattle.domain_task.specs.Turning.{AgentTurns, BrokerTurns}
 use Rattle.domain_task.specs.Working.{IsStill, ChannelRests, IsUp, SessionRests, CallerRests, ServingRests, PageAwaited, HasNotBegun, HadEnded, AgentRests, Rests, Works}
 use Rattle.standstill_laws.specs.Saying.{StopsStill}
-use Rattle.standstill_laws.specs.Sessions.{IsGoneStill}
+use Rattle.standstill_laws.specs.Sides.{SideAt, SideTurns, quiet_by}
+use Rattle.standstill_laws.specs.Sessions.{IsGoneStill, IsGoneStillIn}
 use Rattle.standstill_laws.specs.Counting.{TurnMade}
 use Rattle.standstill_laws.specs.Moments.{WasSo}
 use Rattle.standstill_laws.specs.Pace.{IsQuietBetween}
@@ -48,22 +47,15 @@ pub record RunPages : Type 0 where
 
 -- ---- an agent
 
--- a caller is on the server's end; with a hostile domain only the gone word that the drain loaded need be that of the page
-abbrev pub CallFound : RunPage → (turned : Turned) → (before now : CallerAt) → CallerTurns turned before now → Type 0
-CallFound page Moved before now turn = Unit {0}
-CallFound (OfHonest span) Quiet before now turn = IsQuietBetween span.first span.last Server _ _ _ _ _ turn.2
-CallFound (OfHostile who at) Quiet before now turn = (n : ℕ) × IsGoneStill (at n) who (loads_of (standing_of turn.2.found.side) turn.2.left.side.trail)
-CallFound page Passed before now turn = Unit {0}
-
-abbrev pub ServingFound : RunPage → (turned : Turned) → (before now : ServingAt) → ServingTurns turned before now → Type 0
-ServingFound page Moved before now turn = Unit {0}
-ServingFound (OfHonest span) Quiet before now turn = IsQuietBetween span.first span.last Client _ _ _ _ _ turn.2
-ServingFound (OfHostile who at) Quiet before now turn = (n : ℕ) × IsGoneStill (at n) who (loads_of (standing_of turn.2.found.side) turn.2.left.side.trail)
-ServingFound page Passed before now turn = Unit {0}
+-- what a turn of a side of a session found; with a hostile domain only the gone word that the drain loaded need be that of the page
+abbrev pub SideFound : RunPage → (side : Role) (turned : Turned) (before now : SideAt side) → SideTurns side turned before now → Type 0
+SideFound (OfHonest span) side Quiet before now turn = IsQuietBetween span.first span.last side (quiet_by side before now turn)
+SideFound (OfHostile who at) side Quiet before now turn = (n : ℕ) × IsGoneStillIn (at n) who (quiet_by side before now turn)
+SideFound page side _ before now turn = Unit {0}
 
 abbrev pub SessionFound : RunPage → (old new : Session) → SessionRests old new → Type 0
-SessionFound page old new (CallerRests before now turned was is turn did) = CallFound page turned before now turn
-SessionFound page old new (ServingRests before now turned was is turn did) = ServingFound page turned before now turn
+SessionFound page old new (CallerRests before now turned was is turn did) = SideFound page Server turned before now turn
+SessionFound page old new (ServingRests before now turned was is turn did) = SideFound page Client turned before now turn
 SessionFound page old new (PageAwaited was is) = Unit {0}
 SessionFound page old new (HasNotBegun was is) = Unit {0}
 SessionFound page old new (HadEnded end was is) = Unit {0}

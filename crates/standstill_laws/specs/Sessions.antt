@@ -1,9 +1,8 @@
 -- The two sides of a session whose page stands still.
 -- Source: this project's own.
-use Rattle.std.specs.Prelude.{◌≡◌, ◌≢◌, ℕ, true, false, None, Some}
+use Rattle.std.specs.Prelude.{◌≡◌, ◌≢◌, ℕ, Bool, true, false, List, Some}
 use Rattle.ring_words.specs.declared.page.Role.{Role}
 use Rattle.ring_words.specs.declared.page.Role.TheVariants.{Server, Client}
-use Rattle.vchan_protocol.specs.declared.call.EndState.TheVariants.{Shut}
 use Rattle.vchan_protocol.specs.Table.Ends.{peer_gone}
 use Rattle.vchan_protocol.specs.Answering.Loads.{Loads, loads_of}
 use Rattle.vchan_protocol.specs.History.Core.{Core, side_of, standing_of}
@@ -14,32 +13,29 @@ use Rattle.end_view.specs.EndView.{EndView}
 use Rattle.vchan_rule.specs.Seated.{SeatedEnd}
 use Rattle.vchan_lifecycle.specs.Lifecycle.{FindsNotYet}
 use Rattle.channel_session.specs.declared.pause.Turned.TheVariants.{Quiet}
-use Rattle.channel_session.specs.Calling.{CallerAt, CallerTurns}
-use Rattle.channel_session.specs.Answering.{ServingAt, ServingTurns}
-use Rattle.agent_slots.specs.Sessions.{Session, CallsWith, ServesWith, EndedWith, has_ended}
+use Rattle.channel_session.specs.Turning.{IsQuiet}
+use Rattle.agent_slots.specs.Sessions.{Session, EndedWith, has_ended}
 use Rattle.agent_slots.specs.Agreeing.{SessionStands}
-use Rattle.standstill_laws.specs.Turns.{IsQuietStill}
+use Rattle.standstill_laws.specs.Sides.{SideAt, session_with, SideTurns, quiet_by}
+use Rattle.standstill_laws.specs.Turns.{SideIsQuiet}
 use Rattle.qrexec_data.specs.Laws.{IsVersion}
 
 -- the gone word of the peer that a call loaded is that of the page
 abbrev pub IsGoneStill : Core → Role → Loads → Type 0
 IsGoneStill core who loads = loads.gone ≡ Some (word_at core.orders core.words (peer_gone who))
 
--- the caller, on the server's end: nothing has decided, its last turn was quiet, and what that found is still so; or it is over, and its end is retired
-pub data CallerStandsStill (core : Core) (version : ℕ) : Session → Type 0 where
-  CallIsQuiet : (before now : CallerAt) → SessionStands version (CallsWith before) → before.caller.replies.outcome ≡ None → core.server.state ≢ Shut → (turn : CallerTurns Quiet before now) → IsQuietStill core Server _ _ _ _ _ turn.2
-      → IsGoneStill core Server (loads_of (standing_of turn.2.found.side) turn.2.left.side.trail) → CallerStandsStill core version (CallsWith now)
-  CallIsOver : (end : EndView) → core.server.retired ≡ true → CallerStandsStill core version (EndedWith end)
+-- so is the one that the drain of a quiet turn loaded
+abbrev pub IsGoneStillIn : Core → Role → {still : Type 0} {waiting : List ℕ} {was_shut : Bool} {before now : SeatedEnd} → IsQuiet still waiting was_shut before now → Type 0
+IsGoneStillIn core who q = IsGoneStill core who (loads_of (standing_of q.found.side) q.left.side.trail)
 
--- the side that serves, on the client's end
-pub data ServingStandsStill (core : Core) (version : ℕ) : Session → Type 0 where
-  ServingIsQuiet : (before now : ServingAt) → SessionStands version (ServesWith before) → before.serving.answering.outcome ≡ None → core.client.state ≢ Shut → (turn : ServingTurns Quiet before now) → IsQuietStill core Client _ _ _ _ _ turn.2
-      → IsGoneStill core Client (loads_of (standing_of turn.2.found.side) turn.2.left.side.trail) → ServingStandsStill core version (ServesWith now)
-  ServingIsOver : (end : EndView) → core.client.retired ≡ true → ServingStandsStill core version (EndedWith end)
+-- a side of a session: its last turn was quiet, and what that found is still so; or it is over, and its end is retired
+pub data SideStandsStill (core : Core) (version : ℕ) (who : Role) : Session → Type 0 where
+  IsQuietNow : (before now : SideAt who) → SessionStands version (session_with who before) → (quiet : SideIsQuiet core who before now) → IsGoneStillIn core who (quiet_by who before now quiet.turn) → SideStandsStill core version who (session_with who now)
+  IsOverNow : (end : EndView) → (side_of core who).retired ≡ true → SideStandsStill core version who (EndedWith end)
 
 -- then both are over
 abbrev pub NoSessionIsOpen : Type 0
-NoSessionIsOpen = (core : Core) (calling serving : ℕ) (c s : Session) → Lawful core → IsVersion calling → IsVersion serving → CallerStandsStill core calling c → ServingStandsStill core serving s → (has_ended c ≡ true) × (has_ended s ≡ true)
+NoSessionIsOpen = (core : Core) (calling serving : ℕ) (c s : Session) → Lawful core → IsVersion calling → IsVersion serving → SideStandsStill core calling Server c → SideStandsStill core serving Client s → (has_ended c ≡ true) × (has_ended s ≡ true)
 
 -- ---- a page whose peer has left
 
@@ -49,8 +45,7 @@ PeerHasLeft core who = word_at core.orders core.words (peer_gone who) ≢ 0
 
 -- the last turn of a session was quiet, and the gone word of the peer that its drain loaded is that of the page
 pub data WasQuietHere (core : Core) (who : Role) : Session → Type 0 where
-  CallWasQuiet : (before now : CallerAt) (turn : CallerTurns Quiet before now) → IsGoneStill core who (loads_of (standing_of turn.2.found.side) turn.2.left.side.trail) → WasQuietHere core who (CallsWith now)
-  ServingWasQuiet : (before now : ServingAt) (turn : ServingTurns Quiet before now) → IsGoneStill core who (loads_of (standing_of turn.2.found.side) turn.2.left.side.trail) → WasQuietHere core who (ServesWith now)
+  WasQuiet : (side : Role) (before now : SideAt side) (turn : SideTurns side Quiet before now) → IsGoneStillIn core who (quiet_by side before now turn) → WasQuietHere core who (session_with side now)
 
 -- there is no such session where the peer has left
 abbrev pub NoSessionIsLeftAlone : Type 0

@@ -7,6 +7,7 @@ use Rattle.ring_words.specs.declared.page.Role.{Role}
 use Rattle.ring_words.specs.declared.page.Role.TheVariants.{Server, Client}
 use Rattle.vchan_protocol.specs.Answering.Loads.{loads_of}
 use Rattle.vchan_protocol.specs.History.Core.{Core, side_of, standing_of}
+use Rattle.vchan_protocol.specs.History.Peer.{peer}
 use Rattle.vchan_protocol.specs.Honest.Lawful.{Lawful}
 use Rattle.vchan_rule.specs.Seated.{SeatedEnd, view}
 use Rattle.vchan_lifecycle.specs.Lifecycle.{FindsNotYet}
@@ -32,19 +33,18 @@ use Rattle.standstill_laws.specs.Control.{Talks}
 use Rattle.standstill_laws.specs.Saying.{StopsStill}
 use Rattle.standstill_laws.specs.Letters.{AreAtRest, IsPortOf}
 use Rattle.standstill_laws.specs.Asking.{heard_so_far}
-use Rattle.standstill_laws.specs.Sessions.{IsGoneStill, CallerStandsStill, ServingStandsStill, PeerHasLeft, WasQuietHere}
+use Rattle.standstill_laws.specs.Sessions.{IsGoneStill, SideStandsStill, PeerHasLeft, WasQuietHere}
 use Rattle.standstill_laws.specs.Order.{HasGrown, AreSentInOrder}
 use Rattle.qrexec_data.specs.Laws.{IsVersion}
 
 -- a session isn't open; or its page stands still, and so does the other side of it; or it was quiet on a page that its peer, a hostile domain, has left
 pub data SessionStandsStill (version : ℕ) (s : Session) : Type 0 where
   IsShut : is_open s ≡ false → SessionStandsStill version s
-  AsCaller : (core : Core) (other : ℕ) (peer : Session) → Lawful core → IsVersion other → CallerStandsStill core version s → ServingStandsStill core other peer → SessionStandsStill version s
-  AsServing : (core : Core) (other : ℕ) (peer : Session) → Lawful core → IsVersion other → CallerStandsStill core other peer → ServingStandsStill core version s → SessionStandsStill version s
+  WithPeer : (core : Core) (who : Role) (other : ℕ) (its : Session) → Lawful core → IsVersion other → SideStandsStill core version who s → SideStandsStill core other (peer who) its → SessionStandsStill version s
   IsLeftAlone : (core : Core) (who : Role) → PeerHasLeft core who → WasQuietHere core who s → SessionStandsStill version s
 
--- an agent whose channel is up, on the control page of its domain: its turn said no more, for a reason that is still so, and its sessions stand still
-pub record AgentStandsStill (hub : Domains) (journal : List Entry) (core : Core) (task : AgentState) : Type 0 where
+-- an agent whose channel is up, on the control page of its domain; no two of its calls have one ident, and messages were sent and read in order
+pub record AgentIsUp (hub : Domains) (journal : List Entry) (core : Core) (task : AgentState) : Type 0 where
   pub tells : TellsSoFar task
   pub channel : AgentControl
   pub channel_is : task.channel ≡ Some channel
@@ -53,26 +53,37 @@ pub record AgentStandsStill (hub : Domains) (journal : List Entry) (core : Core)
   pub differ : AreDifferent (map (λ call. ident_of call.number) task.plan.calls)
   pub given : Each (IsUnusedBy task.plan.domain task.plan.places) (heard_so_far task)
   pub order : AreSentInOrder hub journal task.plan.domain tells.once.said
-  -- it might have asked for a call in this turn, and asked for none
+
+-- it might have asked for a call in its last turn, and asked for none, since it stopped
+pub record AsksForNone (channel : AgentControl) : Type 0 where
   pub before : AgentControl
   pub calls : ℕ
   pub some : 0 < calls
   pub stops : Stops calls before channel
-  pub still : StopsStill core calls before channel stops
   pub none_asked : channel.queue.next ≡ before.queue.next
+
+-- such an agent stopped for a reason that is still so, and its sessions stand still
+pub record AgentStandsStill (hub : Domains) (journal : List Entry) (core : Core) (task : AgentState) : Type 0 where
+  pub agent : AgentIsUp hub journal core task
+  pub asks : AsksForNone agent.channel
+  pub still : StopsStill core asks.calls asks.before agent.channel asks.stops
   pub sessions : (i : ℕ) → SessionStandsStill task.plan.version (session_at task.sessions i)
+
+-- the port of what the broker keeps of the domain at this place, by which it has attended to the domain
+pub record PortStands (hub : Domains) (journal : List Entry) (said : ℕ → List Message) (place : ℕ) (line : BrokerLine) : Type 0 where
+  pub port : PortState
+  pub port_is : IsPortOf line port
+  pub own : port.own ≡ broker_version
+  pub attended : IsAttended hub journal said (place + 1) (record { view = view port.end; gone = port.end.side.notes.gone })
 
 -- the domain behind this place: what the broker keeps of it, and its agent
 pub record DomainStandsStill (hub : Domains) (awaited : List ℕ) (journal : List Entry) (said : ℕ → List Message) (lines : List BrokerLine) (rest : AreAtRest lines) (place : ℕ) : Type 0 where
   pub line : BrokerLine
   pub there : IsAt lines place line
   pub up : is_shut (view line.end).state ≡ false
-  pub port : PortState
-  pub port_is : IsPortOf line port
-  pub own : port.own ≡ broker_version
-  pub attended : IsAttended hub journal said (place + 1) (record { view = view port.end; gone = port.end.side.notes.gone })
+  pub kept : PortStands hub journal said place line
   pub heard : List Message
-  pub talks : Talks (rest place line there up).core Client Broker port (said (place + 1)) heard
+  pub talks : Talks (rest place line there up).core Client Broker kept.port (said (place + 1)) heard
   pub task : AgentState
   pub domain : task.plan.domain ≡ place + 1
   pub count : length task.plan.calls ≡ awaited_of awaited (place + 1)

@@ -6,8 +6,7 @@ use Rattle.vchan_protocol.specs.declared.call.EndState.TheVariants.{Open}
 use Rattle.vchan_protocol.specs.declared.side.Side.{Side}
 use Rattle.vchan_protocol.specs.History.Core.{Core}
 use Rattle.vchan_protocol.specs.Honest.Lawful.{Lawful}
-use Rattle.agent_slots.specs.Sessions.{Session, CallsWith, ServesWith, session_at}
-use Rattle.agent_slots.specs.Agreeing.{SessionStands}
+use Rattle.agent_slots.specs.Sessions.{session_at}
 use Rattle.agent_control.specs.declared.control.AgentControl.{AgentControl}
 use Rattle.broker_task.specs.Letters.{IsAt}
 use Rattle.broker_task.specs.Moving.{BrokerLine}
@@ -16,6 +15,7 @@ use Rattle.domain_task.specs.declared.task.Task.TheVariants.{Agent, Broker}
 use Rattle.domain_task.specs.Working.{DoesNothing}
 use Rattle.standstill_laws.specs.Counting.{TurnMade, AreMade}
 use Rattle.standstill_laws.specs.Keeping.{PageRested}
+use Rattle.standstill_laws.specs.Sides.{IsOn}
 
 -- ---- a task
 
@@ -29,21 +29,6 @@ abbrev pub StretchesRest : Type 0
 StretchesRest = (many : ℕ) (first last : ℕ → Task) (turns : List TurnMade) → AreMade many first turns last → Each (λ made. DoesNothing made.before made.now) turns → (place : ℕ) → RestsOn (first place) (last place)
 
 -- ---- a data page
-
--- an open session has this end
-abbrev pub HasEnd : Session → Side → Type 0
-HasEnd (CallsWith at) side = at.end.side ≡ side
-HasEnd (ServesWith at) side = at.end.side ≡ side
-HasEnd session side = ⊥
-
-abbrev pub IsUndecided : Session → Type 0
-IsUndecided (CallsWith at) = at.caller.replies.outcome ≡ None
-IsUndecided (ServesWith at) = at.serving.answering.outcome ≡ None
-IsUndecided session = Unit {0}
-
--- it is on this end, its parts agree, and nothing has decided it
-abbrev pub IsOn : ℕ → Session → Side → Type 0
-IsOn version session side = SessionStands version session × IsUndecided session × HasEnd session side
 
 -- an agent has this end in its session at this place
 abbrev pub HoldsEnd : Task → ℕ → Side → Type 0

@@ -1,45 +1,36 @@
 -- How many turns in a row of a run may all do nothing while its broker goes on, with hostile domains that were dropped or without.
 -- Source: this project's own.
-use Rattle.std.specs.Prelude.{◌≡◌, ◌⊎◌, ℕ, Bool, ◌+◌, ◌*◌, ◌<◌, ◌≤◌, ◌==◌, true, false, List, ◌∷◌, ◌++◌, length, map, Some, None, IsSome}
+use Rattle.std.specs.Prelude.{◌≡◌, ◌⊎◌, ℕ, Bool, ◌+◌, ◌*◌, ◌<◌, ◌≤◌, ◌==◌, true, false, List, ◌∷◌, ◌++◌, length, IsSome}
 use Rattle.std.specs.List.{count_by, AllByRecursion as Each}
-use Rattle.list_laws.specs.Lists.{AreDifferent}
 use Rattle.ring_words.specs.declared.page.Role.{Role}
 use Rattle.ring_words.specs.declared.page.Role.TheVariants.{Client}
-use Rattle.vchan_protocol.specs.History.Core.{Core}
-use Rattle.vchan_rule.specs.Seated.{view}
+use Rattle.vchan_protocol.specs.History.Core.{Core, side_of}
+use Rattle.vchan_protocol.specs.History.Peer.{peer}
 use Rattle.qrexec_frame.specs.declared.message.Message.{Message}
 use Rattle.call_broker.specs.Domains.{Domains, count_of}
 use Rattle.call_broker.specs.Journal.{is_dropped}
-use Rattle.task_duties.specs.Words.{ident_of}
-use Rattle.task_duties.specs.Broker.Owes.{broker_version, awaited_of}
+use Rattle.task_duties.specs.Broker.Owes.{awaited_of}
 use Rattle.task_duties.specs.declared.turn.TaskTurn.TheVariants as own
-use Rattle.task_duties.proofs.ServedLaw.{IsUnusedBy}
-use Rattle.channel_session.specs.Calling.{CallerAt}
-use Rattle.channel_session.specs.Answering.{ServingAt}
-use Rattle.control_port.specs.Port.{PortState}
 use Rattle.control_port.specs.declared.talk.Talker.TheVariants.{Broker as OfBroker}
-use Rattle.agent_control.specs.declared.control.AgentControl.{AgentControl}
-use Rattle.agent_slots.specs.Sessions.{Session, CallsWith, ServesWith, is_open, session_at}
+use Rattle.agent_slots.specs.Sessions.{Session, is_open, session_at}
 use Rattle.agent_task.specs.State.{AgentState, TellsSoFar}
 use Rattle.agent_task.specs.Moving.{asked_at_most}
 use Rattle.broker_task.specs.Given.{BrokerState}
 use Rattle.broker_task.specs.Letters.{IsAt}
 use Rattle.broker_task.specs.Moving.{BrokerLine}
-use Rattle.broker_task.specs.Standing.{IsAttended}
 use Rattle.broker_task.specs.Turns.{StandsAfter}
 use Rattle.domain_task.specs.declared.task.Task.{Task}
 use Rattle.domain_task.specs.declared.task.Task.TheVariants.{Agent, Broker}
 use Rattle.domain_task.specs.Working.{DoesNothing}
 use Rattle.standstill_laws.specs.Control.{Talks}
-use Rattle.standstill_laws.specs.Letters.{IsPortOf}
-use Rattle.standstill_laws.specs.Asking.{heard_so_far}
-use Rattle.standstill_laws.specs.Order.{HasGrown, AreSentInOrder}
+use Rattle.standstill_laws.specs.Order.{HasGrown}
 use Rattle.standstill_laws.specs.Sessions.{PeerHasLeft}
+use Rattle.standstill_laws.specs.Standstill.{AgentIsUp, PortStands}
 use Rattle.standstill_laws.specs.Counting.{TurnMade, AreMade, work_of_all, NoStretchRests}
 use Rattle.standstill_laws.specs.Work.{IsHonestRun, run_work}
 use Rattle.standstill_laws.specs.Stretch.{AreMoments, HoldsControl, HoldsLine}
 use Rattle.standstill_laws.specs.Moments.{IsBetween}
-use Rattle.standstill_laws.specs.Pace.{IsHeld}
+use Rattle.standstill_laws.specs.Sides.{SideAt, session_with, IsHeld}
 use Rattle.standstill_laws.specs.Idle.{Span, OfHonest, OfHostile, RunPages, IsIdle}
 
 -- how many of the turns are those of the task at this place
@@ -48,39 +39,19 @@ turns_of place turns = count_by (λ made. place == made.place) turns
 
 -- ---- a session
 
--- the agent of a domain at both ends of a stretch, and its session at this place: a caller on the server's end of its page
-pub record CallerStays (span : Span) (first now : ℕ → Task) (place i : ℕ) : Type 0 where
+-- the agent of a domain at both ends of a stretch, and its session at this place, a side of which has the end of this role of its page
+pub record SideStays (span : Span) (first now : ℕ → Task) (who : Role) (place i : ℕ) : Type 0 where
   pub old : AgentState
   pub new : AgentState
   pub was : first (place + 1) ≡ Agent old
   pub is : now (place + 1) ≡ Agent new
   pub tells : TellsSoFar old
-  pub from : CallerAt
-  pub to : CallerAt
-  pub was_so : session_at old.sessions i ≡ CallsWith from
-  pub is_so : session_at new.sessions i ≡ CallsWith to
-  pub was_held : IsHeld (CallsWith from) span.first.server
-  pub is_held : IsHeld (CallsWith to) span.last.server
-
--- or a side that serves, on the client's end
-pub record ServingStays (span : Span) (first now : ℕ → Task) (place i : ℕ) : Type 0 where
-  pub old : AgentState
-  pub new : AgentState
-  pub was : first (place + 1) ≡ Agent old
-  pub is : now (place + 1) ≡ Agent new
-  pub tells : TellsSoFar old
-  pub from : ServingAt
-  pub to : ServingAt
-  pub was_so : session_at old.sessions i ≡ ServesWith from
-  pub is_so : session_at new.sessions i ≡ ServesWith to
-  pub was_held : IsHeld (ServesWith from) span.first.client
-  pub is_held : IsHeld (ServesWith to) span.last.client
-
--- a caller, or a side that serves
-abbrev pub IsSide : Session → Type 0
-IsSide (CallsWith at) = Unit {0}
-IsSide (ServesWith at) = Unit {0}
-IsSide session = ⊥
+  pub from : SideAt who
+  pub to : SideAt who
+  pub was_so : session_at old.sessions i ≡ session_with who from
+  pub is_so : session_at new.sessions i ≡ session_with who to
+  pub was_held : IsHeld (session_with who from) (side_of span.first who)
+  pub is_held : IsHeld (session_with who to) (side_of span.last who)
 
 -- the agent at the first moment, of which a session at this place is on a page that its peer, a hostile domain, had left before
 pub record StaysAlone (pages : RunPages) (first : ℕ → Task) (place i : ℕ) : Type 0 where
@@ -91,17 +62,16 @@ pub record StaysAlone (pages : RunPages) (first : ℕ → Task) (place i : ℕ) 
   pub old : AgentState
   pub was : first (place + 1) ≡ Agent old
   pub tells : TellsSoFar old
-  pub side : IsSide (session_at old.sessions i)
+  pub side : Role
+  pub from : SideAt side
+  pub was_so : session_at old.sessions i ≡ session_with side from
 
 -- a session isn't open; or its agent and one of these peers are at the two ends of its page; or the end across from it was retired before; or a hostile peer had left
 pub data SessionStays (pages : RunPages) (first now : ℕ → Task) (IsPeer : ℕ → Type 0) (place i : ℕ) (s : Session) : Type 0 where
   IsShut : is_open s ≡ false → SessionStays pages first now IsPeer place i s
-  AsCaller : (span : Span) (peer j : ℕ) → IsPeer peer → pages.session place i ≡ OfHonest span → pages.session peer j ≡ OfHonest span → AreMoments span.first span.last
-      → CallerStays span first now place i → ServingStays span first now peer j → SessionStays pages first now IsPeer place i s
-  AsServing : (span : Span) (peer j : ℕ) → IsPeer peer → pages.session place i ≡ OfHonest span → pages.session peer j ≡ OfHonest span → AreMoments span.first span.last
-      → CallerStays span first now peer j → ServingStays span first now place i → SessionStays pages first now IsPeer place i s
-  CallsAlone : (span : Span) → pages.session place i ≡ OfHonest span → CallerStays span first now place i → span.first.client.retired ≡ true → SessionStays pages first now IsPeer place i s
-  ServesAlone : (span : Span) → pages.session place i ≡ OfHonest span → ServingStays span first now place i → span.first.server.retired ≡ true → SessionStays pages first now IsPeer place i s
+  WithPeer : (span : Span) (who : Role) (other j : ℕ) → IsPeer other → pages.session place i ≡ OfHonest span → pages.session other j ≡ OfHonest span → AreMoments span.first span.last
+      → SideStays span first now who place i → SideStays span first now (peer who) other j → SessionStays pages first now IsPeer place i s
+  IsAlone : (span : Span) (who : Role) → pages.session place i ≡ OfHonest span → SideStays span first now who place i → (side_of span.first (peer who)).retired ≡ true → SessionStays pages first now IsPeer place i s
   IsLeftAlone : StaysAlone pages first place i → SessionStays pages first now IsPeer place i s
 
 -- ---- a domain
@@ -132,28 +102,18 @@ pub record DomainStays (honest : ℕ → Bool) (pages : RunPages) (first now las
   pub version : IsSome line.version
   pub greets : (new : BrokerLine) → IsAt then.lines place new → IsSome new.version
   -- the port of what the broker keeps
-  pub port : PortState
-  pub port_is : IsPortOf line port
-  pub own : port.own ≡ broker_version
-  pub attended : IsAttended broker.hub broker.journal said (place + 1) (record { view = view port.end; gone = port.end.side.notes.gone })
+  pub kept : PortStands broker.hub broker.journal said place line
   pub heard : List Message
-  pub talks : Talks core Client OfBroker port (said (place + 1)) heard
+  pub talks : Talks core Client OfBroker kept.port (said (place + 1)) heard
   -- its agent, whose channel is up, and which might ask for a call
   pub task : AgentState
   pub task_is : now (place + 1) ≡ Agent task
   pub domain : task.plan.domain ≡ place + 1
   pub count : length task.plan.calls ≡ awaited_of broker.awaited (place + 1)
-  pub over : task.over ≡ None
-  pub tells : TellsSoFar task
-  pub channel : AgentControl
-  pub channel_is : task.channel ≡ Some channel
-  pub end : channel.port.end.side ≡ core.server
-  pub agent_greeted : channel.port.greeted ≡ true
-  pub agent_version : IsSome channel.port.version
+  pub agent : AgentIsUp broker.hub broker.journal core task
+  pub agent_greeted : agent.channel.port.greeted ≡ true
+  pub agent_version : IsSome agent.channel.port.version
   pub may_ask : 0 < asked_at_most task.pages
-  pub differ : AreDifferent (map (λ call. ident_of call.number) task.plan.calls)
-  pub given : Each (IsUnusedBy task.plan.domain task.plan.places) (heard_so_far task)
-  pub order : AreSentInOrder broker.hub broker.journal task.plan.domain tells.once.said
   pub sessions : (i : ℕ) → SessionStays pages first last (IsHonestAgent broker.hub honest) place i (session_at task.sessions i)
 
 -- ---- a stretch

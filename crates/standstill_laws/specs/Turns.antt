@@ -1,6 +1,6 @@
 -- Two sides of a session whose turns moved nothing, on a page on which nothing has changed since.
 -- Source: this project's own.
-use Rattle.std.specs.Prelude.{◌≡◌, ◌≢◌, Bool, ℕ, List, None}
+use Rattle.std.specs.Prelude.{◌≡◌, ◌≢◌, Bool, ℕ, List}
 use Rattle.ring_words.specs.declared.page.Role.{Role}
 use Rattle.ring_words.specs.declared.page.Role.TheVariants.{Server, Client}
 use Rattle.service_gate.specs.Triple.{Triple}
@@ -12,39 +12,41 @@ use Rattle.vchan_protocol.specs.Honest.Lawful.{Lawful}
 use Rattle.vchan_rule.specs.Seated.{SeatedEnd}
 use Rattle.channel_session.specs.declared.pause.Turned.TheVariants.{Quiet}
 use Rattle.channel_session.specs.Turning.{IsQuiet, SendsNone, NothingWaits, WasShut, RingIsFull, PeerIsShut}
-use Rattle.channel_session.specs.Calling.{CallerAt, CallerTurns, IsCalling}
-use Rattle.channel_session.specs.Answering.{ServingAt, ServingTurns, IsAnswering}
+use Rattle.channel_session.specs.Calling.{CallerAt, IsCalling}
+use Rattle.channel_session.specs.Answering.{ServingAt, IsAnswering}
 use Rattle.standstill_laws.specs.Page.{AreIndices, IsLiveStill}
+use Rattle.standstill_laws.specs.Sides.{SideAt, session_with, SideTurns, quiet_by, IsUndecided}
 use Rattle.qrexec_data.specs.Laws.{IsVersion}
 
 -- why nothing went is still so: the indices that the write answered with, or the live byte that it loaded, are those of the page
-abbrev pub SendsStill : Core → Role → (still : Type 0) → (waiting : List ℕ) → (was_shut : Bool) → (before now : SeatedEnd) → SendsNone still waiting was_shut before now → Type 0
-SendsStill core who still waiting was_shut before now (NothingWaits none same) = Unit {0}
-SendsStill core who still waiting was_shut before now (WasShut was saw same) = Unit {0}
-SendsStill core who still waiting was_shut before now (RingIsFull some full) = AreIndices core (written_ring who) full.prod full.cons
-SendsStill core who still waiting was_shut before now (PeerIsShut some shut) = IsLiveStill core who (loads_of (standing_of before.side) now.side.trail)
+abbrev pub SendsStill : Core → Role → {still : Type 0} {waiting : List ℕ} {was_shut : Bool} {before now : SeatedEnd} → SendsNone still waiting was_shut before now → Type 0
+SendsStill core who (NothingWaits none same) = Unit {0}
+SendsStill core who (WasShut was saw same) = Unit {0}
+SendsStill core who (RingIsFull some full) = AreIndices core (written_ring who) full.prod full.cons
+SendsStill core who {before = before} {now = now} (PeerIsShut some shut) = IsLiveStill core who (loads_of (standing_of before.side) now.side.trail)
 
 -- the end is as its quiet turn left it, and what the turn found is still so
-pub record IsQuietStill (core : Core) (who : Role) (still : Type 0) (waiting : List ℕ) (was_shut : Bool) (before now : SeatedEnd) (q : IsQuiet still waiting was_shut before now) : Type 0 where
+pub record IsQuietStill (core : Core) (who : Role) {still : Type 0} {waiting : List ℕ} {was_shut : Bool} {before now : SeatedEnd} (q : IsQuiet still waiting was_shut before now) : Type 0 where
   pub is_now : now.side ≡ side_of core who
   pub drained : AreIndices core (read_ring who) q.not_yet.prod q.not_yet.cons
-  pub sends : SendsStill core who still waiting was_shut q.left now q.sends
+  pub sends : SendsStill core who q.sends
 
--- the two sides of a session between honest ends, a caller on the server's end and a side that serves on the client's, neither of which is shut; nothing has decided, and each has made a quiet turn since which nothing changed
+-- a side of a session, whose end isn't shut and which nothing has decided, made a quiet turn since which nothing changed
+pub record SideIsQuiet (core : Core) (who : Role) (before now : SideAt who) : Type 0 where
+  pub opened : (side_of core who).state ≢ Shut
+  pub undecided : IsUndecided (session_with who before)
+  pub turn : SideTurns who Quiet before now
+  pub still : IsQuietStill core who (quiet_by who before now turn)
+
+-- so did both sides of a session between honest ends
 pub record BothAreQuiet (core : Core) (owed : List ℕ → Triple) (c c' : CallerAt) (s s' : ServingAt) : Type 0 where
   pub lawful : Lawful core
-  pub server_opened : core.server.state ≢ Shut
-  pub client_opened : core.client.state ≢ Shut
   pub calls : IsCalling c.caller c.end
   pub serves : IsAnswering owed s.serving s.end
   pub caller_version : IsVersion c.caller.replies.own
   pub serving_version : IsVersion s.serving.answering.own
-  pub caller_undecided : c.caller.replies.outcome ≡ None
-  pub serving_undecided : s.serving.answering.outcome ≡ None
-  pub caller_turn : CallerTurns Quiet c c'
-  pub serving_turn : ServingTurns Quiet s s'
-  pub caller_still : IsQuietStill core Server _ _ _ _ _ caller_turn.2
-  pub serving_still : IsQuietStill core Client _ _ _ _ _ serving_turn.2
+  pub caller : SideIsQuiet core Server c c'
+  pub serving : SideIsQuiet core Client s s'
 
 -- there are no such two
 abbrev pub NoSessionStandsStill : Type 0

@@ -1,0 +1,101 @@
+-- What the turns of a side of a session in which nothing moved leave: its bytes, and of eight in a row what a quiet one found.
+use Rattle.std.proofs.Common.{◌≡◌, ◌≢◌, ℕ, ◌+◌, suc, ◌≤◌, Option, None, refl, sym, ap, ◌∙◌, subst, arith}
+use Rattle.ring_words.specs.declared.page.Role.{Role}
+use Rattle.ring_words.specs.declared.page.Role.TheVariants.{Server, Client}
+use Rattle.vchan_protocol.specs.declared.call.EndState.TheVariants.{Open}
+use Rattle.vchan_protocol.specs.declared.side.Side.{Side}
+use Rattle.end_view.specs.EndView.{EndView}
+use Rattle.vchan_rule.specs.Seated.{view}
+use Rattle.service_gate.specs.declared.builtin.Builtin.{Builtin}
+use Rattle.qrexec_data.specs.declared.outcome.Outcome.{Outcome}
+use Rattle.qrexec_data.specs.CallerSide.{CallerState}
+use Rattle.qrexec_data.specs.ServingSide.{ServingState}
+use Rattle.channel_session.specs.declared.pause.Turned.{Turned}
+use Rattle.channel_session.specs.declared.pause.Turned.TheVariants.{Moved, Quiet, Passed}
+use Rattle.channel_session.specs.Turning.{Pace, IsPassed}
+use Rattle.channel_session.specs.Answering.{EndsBy}
+use Rattle.agent_slots.specs.Sessions.{Session, CallsWith, ServesWith, got_in, sent_in}
+use Rattle.agent_slots.specs.Agreeing.{SessionStands}
+use Rattle.standstill_laws.specs.Sides.{SideAt, session_with, end_of, pace_of, SideTurns, SideRests, NoTurn, QuietTurn, PassedTurn, HasEnd, IsUndecided}
+
+pub same_side : (who : Role) (a b : SideAt who) → session_with who a ≡ session_with who b → a ≡ b
+same_side Server a b e = cc
+same_side Client a b e = cc
+
+-- ---- its bytes
+
+abbrev pub HasSameBytes : Session → Session → Type 0
+HasSameBytes old new = (got_in new ≡ got_in old) × (sent_in new ≡ sent_in old)
+
+pub turn_same : (who : Role) (turned : Turned) (before now : SideAt who) → SideTurns who turned before now → turned ≢ Moved → HasSameBytes (session_with who before) (session_with who now)
+turn_same who Moved before now turn did = absurd (did refl)
+turn_same Server Quiet before now turn did = (turn.0.0, turn.0.1)
+turn_same Client Quiet before now turn did = (turn.0.0, turn.0.1)
+turn_same Server Passed before now turn did = (ap (λ (v : EndView). v.got) turn.1.no_event.view_is, ap (λ (v : EndView). v.sent) turn.1.no_event.view_is)
+turn_same Client Passed before now turn did = (ap (λ (v : EndView). v.got) turn.1.no_event.view_is, ap (λ (v : EndView). v.sent) turn.1.no_event.view_is)
+
+pub end_bytes : (s : Session) (side : Side) → HasEnd s side → (got_in s ≡ side.got) × (sent_in s ≡ side.sent)
+end_bytes (CallsWith at) side h = (ap (λ (s : Side). s.got) h, ap (λ (s : Side). s.sent) h)
+end_bytes (ServesWith at) side h = (ap (λ (s : Side). s.got) h, ap (λ (s : Side). s.sent) h)
+end_bytes _ side h = absurd h
+
+pub end_open : (version : ℕ) (s : Session) (side : Side) → SessionStands version s → IsUndecided s → HasEnd s side → side.state ≡ Open
+end_open version (CallsWith at) side stands none h = sym (ap (λ (s : Side). s.state) h) ∙ stands.0.is_open.1
+end_open version (ServesWith at) side stands none h =
+    let ends : EndsBy None (view at.end) = subst (λ (o : Option Outcome). EndsBy o (view at.end)) none stands.0.ends in
+    sym (ap (λ (s : Side). s.state) h) ∙ ends.0
+end_open version _ side stands none h = absurd h
+
+-- ---- a turn that was passed over
+
+passed_by : (who : Role) (before now : SideAt who) → SideTurns who Passed before now → IsPassed (pace_of who before) (pace_of who now) (end_of who before) (end_of who now)
+passed_by Server before now turn = turn.1
+passed_by Client before now turn = turn.1
+
+undecided_stays : (who : Role) (before now : SideAt who) → SideTurns who Passed before now → IsUndecided (session_with who before) → IsUndecided (session_with who now)
+undecided_stays Server before now turn none = ap (λ (s : CallerState). s.replies.outcome) turn.0 ∙ none
+undecided_stays Client before now turn none = ap (λ (s : ServingState Builtin). s.answering.outcome) turn.0 ∙ none
+
+-- ---- turns in a row
+
+module _ (who : Role) (Finds : (before now : SideAt who) → SideTurns who Quiet before now → Type 0) where
+  pub all_same : (n : ℕ) (from to : SideAt who) → SideRests who Finds n from to → HasSameBytes (session_with who from) (session_with who to)
+  all_same n from to (NoTurn at) = (refl, refl)
+  all_same n from to (QuietTurn m before now then turn found rest) =
+      let one = turn_same who Quiet before now turn (λ is. cc) in
+      let all = all_same m now then rest in
+      (all.0 ∙ one.0, all.1 ∙ one.1)
+  all_same n from to (PassedTurn m before now then turn rest) =
+      let one = turn_same who Passed before now turn (λ is. cc) in
+      let all = all_same m now then rest in
+      (all.0 ∙ one.0, all.1 ∙ one.1)
+
+  -- a quiet one of them: before it nothing was decided, and behind it nothing came or went
+  pub record QuietOne (from to : SideAt who) : Type 0 where
+    pub before : SideAt who
+    pub now : SideAt who
+    pub turn : SideTurns who Quiet before now
+    pub found : Finds before now turn
+    pub undecided : IsUndecided (session_with who from) → IsUndecided (session_with who before)
+    pub same : HasSameBytes (session_with who before) (session_with who to)
+
+  quiet_first : (n : ℕ) (before now then : SideAt who) (turn : SideTurns who Quiet before now) → Finds before now turn → SideRests who Finds n now then → QuietOne before then
+  quiet_first n before now then turn found rest =
+      record { before = before; now = now; turn = turn; found = found; undecided = λ none. none; same = all_same (suc n) before then (QuietTurn n before now then turn found rest) }
+
+  quiet_later : (before now then : SideAt who) → SideTurns who Passed before now → QuietOne now then → QuietOne before then
+  quiet_later before now then turn q = record { before = q.before; now = q.now; turn = q.turn; found = q.found; undecided = λ none. q.undecided (undecided_stays who before now turn none); same = q.same }
+
+  -- no more than seven are passed over
+  quiet_behind : (n : ℕ) (from to : SideAt who) → SideRests who Finds n from to → 8 ≤ n + (pace_of who from).passed → (pace_of who from).passed ≤ 7 → QuietOne from to
+  quiet_behind n from to (NoTurn at) long few = absurd (omega (arith, long, few))
+  quiet_behind n from to (QuietTurn m before now then turn found rest) long few = quiet_first m before now then turn found rest
+  quiet_behind n from to (PassedTurn m before now then turn rest) long few =
+      let passed = passed_by who before now turn in
+      let more : (pace_of who now).passed ≡ (pace_of who before).passed + 1 = ap (λ (p : Pace). p.passed) passed.pace in
+      quiet_later before now then turn (quiet_behind m now then rest (omega (arith, long, more)) (omega (arith, passed.may.1, more)))
+
+  pub quiet_one : (n : ℕ) (from to : SideAt who) → SideRests who Finds n from to → 8 ≤ n → QuietOne from to
+  quiet_one n from to (NoTurn at) long = absurd (omega (arith, long))
+  quiet_one n from to (QuietTurn m before now then turn found rest) long = quiet_first m before now then turn found rest
+  quiet_one n from to (PassedTurn m before now then turn rest) long = quiet_behind (suc m) before then (PassedTurn m before now then turn rest) (omega (arith, long)) (omega (arith, (passed_by who before now turn).may.1))
