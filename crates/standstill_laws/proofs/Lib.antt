@@ -19,6 +19,7 @@ mod SumLaws
 mod PriceLaws
 mod TrafficLaws
 mod WorkLaws
+mod TakingLaws
 mod KeepingLaws
 mod OwnLaws
 mod SideLaws

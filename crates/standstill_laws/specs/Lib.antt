@@ -15,6 +15,7 @@ pub mod Counting
 pub mod Bounds
 pub mod Traffic
 pub mod Work
+pub mod Taking
 pub mod Keeping
 pub mod Stretch
 pub mod Moments

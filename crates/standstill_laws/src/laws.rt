@@ -16,6 +16,7 @@ ghost use Rattle.standstill_laws.specs.Counting.{TurnsAreBounded};
 ghost use Rattle.standstill_laws.specs.Bounds.{AgentsSayFew, OutboxesHoldFew, SessionsSendLittle, SessionWorkIsBounded};
 ghost use Rattle.standstill_laws.specs.Traffic.{AgentsSpeak, ControlMessagesAreFew, ControlBytesAreFew};
 ghost use Rattle.standstill_laws.specs.Work.{SidesSendSo, RunWorkIsBounded, RunTurnsAreBounded};
+ghost use Rattle.standstill_laws.specs.Taking.{TakenIsBounded};
 ghost use Rattle.standstill_laws.specs.Stretch.{ControlPagesRest, DataPagesRest, StretchesRest};
 ghost use Rattle.standstill_laws.specs.Moments.{MomentsRest, PagesGoOn};
 ghost use Rattle.standstill_laws.specs.Pace.{NoSessionRests};
@@ -275,6 +276,12 @@ pub fn sessions_send_little()
 /// number that the length of the call's input gives.
 pub fn session_work_is_bounded()
     ensures { SessionWorkIsBounded }
+{}
+
+/// An honest end gets no more from a peer that was turned over to a hostile user than it had got then, and a ring's
+/// bytes for each event of that user that wrote the producer index, and for the index as it stood at the turning.
+pub fn taken_is_bounded()
+    ensures { TakenIsBounded }
 {}
 
 /// An agent has said at most a trigger and an end for each of its calls, and an end for each message that it heard.
