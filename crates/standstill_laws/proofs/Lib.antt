@@ -20,6 +20,7 @@ mod PriceLaws
 mod TrafficLaws
 mod WorkLaws
 mod TakingLaws
+mod ActingLaws
 mod KeepingLaws
 mod OwnLaws
 mod SideLaws

@@ -100,7 +100,7 @@ prod_of_stored RightProd Server e n value owes = refl
 prod_of_stored _ Server e n value owes = refl
 prod_of_stored _ Client e n value owes = refl
 
-prod_of_byte : (ring other : Ring) (place : ℕ) → prod_of ring (RingByte other place) ≡ 0
+pub prod_of_byte : (ring other : Ring) (place : ℕ) → prod_of ring (RingByte other place) ≡ 0
 prod_of_byte Left other place = refl
 prod_of_byte Right other place = refl
 
@@ -114,6 +114,11 @@ shows_none e n (Or word bits) owes = prod_of_flag (read_ring e.role) word owes
 shows_none e n (And word bits) owes = prod_of_flag (read_ring e.role) word owes
 shows_none e n (Swap word value) owes = prod_of_flag (read_ring e.role) word owes
 shows_none e n Nothing owes = absurd owes
+
+-- how often some events write it, and then others
+pub shows_append : (ring : Ring) (xs ys : List PastEvent) → shows_of ring (xs ++ ys) ≡ shows_of ring xs + shows_of ring ys
+shows_append ring [] ys = omega arith
+shows_append ring (x ∷ xs) ys = omega (arith, shows_append ring xs ys)
 
 -- ---- what an end gets at most
 
@@ -268,10 +273,6 @@ takes_event start orders words role mine theirs role_is orders_are h more =
     (takes_made words mine i (omega (arith, h.cons)) _ (op_next mine) (owes_now mine i more) w)))
 
 -- a hostile user makes an event
-shows_push : (ring : Ring) (trail : List PastEvent) (op : Op) (taken : ℕ) → shows_of ring (trail ++ past op taken ∷ []) ≡ shows_of ring trail + shows_by ring op
-shows_push ring [] op taken = omega arith
-shows_push ring (event ∷ events) op taken = omega (arith, shows_push ring events op taken)
-
 takes_stray : (orders : Orders) (words payload : List ℕ) (role : Role) (mine theirs : Side) (op : Op) (taken : ℕ) → Takes orders words role mine theirs →
     Takes orders (words_after orders words payload op) role mine (strays theirs op taken)
 takes_stray orders words payload role mine theirs op taken w = go (shows_by ring op) refl
@@ -283,7 +284,7 @@ takes_stray orders words payload role mine theirs op taken w = go (shows_by ring
     order = order_of orders ring
 
     pushed : shows_of ring (theirs.trail ++ past op taken ∷ []) ≡ shows_of ring theirs.trail + shows_by ring op
-    pushed = shows_push ring theirs.trail op taken
+    pushed = omega (arith, shows_append ring theirs.trail (past op taken ∷ []))
 
     go : (count : ℕ) → shows_by ring op ≡ count → Takes orders (words_after orders words payload op) role mine (strays theirs op taken)
     go zero none =

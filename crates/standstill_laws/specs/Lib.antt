@@ -16,6 +16,7 @@ pub mod Bounds
 pub mod Traffic
 pub mod Work
 pub mod Taking
+pub mod Acting
 pub mod Keeping
 pub mod Stretch
 pub mod Moments

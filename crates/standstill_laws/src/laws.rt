@@ -17,6 +17,7 @@ ghost use Rattle.standstill_laws.specs.Bounds.{AgentsSayFew, OutboxesHoldFew, Se
 ghost use Rattle.standstill_laws.specs.Traffic.{AgentsSpeak, ControlMessagesAreFew, ControlBytesAreFew};
 ghost use Rattle.standstill_laws.specs.Work.{SidesSendSo, RunWorkIsBounded, RunTurnsAreBounded};
 ghost use Rattle.standstill_laws.specs.Taking.{TakenIsBounded};
+ghost use Rattle.standstill_laws.specs.Acting.{EndsAreOfActs, ActsShowFew, TakenFromDomains};
 ghost use Rattle.standstill_laws.specs.Stretch.{ControlPagesRest, DataPagesRest, StretchesRest};
 ghost use Rattle.standstill_laws.specs.Moments.{MomentsRest, PagesGoOn};
 ghost use Rattle.standstill_laws.specs.Pace.{NoSessionRests};
@@ -282,6 +283,24 @@ pub fn session_work_is_bounded()
 /// bytes for each event of that user that wrote the producer index, and for the index as it stood at the turning.
 pub fn taken_is_bounded()
     ensures { TakenIsBounded }
+{}
+
+/// What was done on the ends of a hostile domain are its acts, once it is done, and after each turn, if the act under way
+/// has taken no more turns than it may.
+pub fn ends_are_of_acts()
+    ensures { EndsAreOfActs }
+{}
+
+/// They write a producer index of a page no more often than the acts say: a poke once, a scribble with each of its stores,
+/// and on the control page an act that sends bytes once a turn, of which it has at most 1,024.
+pub fn acts_show_few()
+    ensures { ActsShowFew }
+{}
+
+/// So an honest end gets no more from a hostile domain than that had sent before its end was turned, and a ring's bytes for
+/// each time that its acts may write the producer index of the page, and once more.
+pub fn taken_from_domains()
+    ensures { TakenFromDomains }
 {}
 
 /// An agent has said at most a trigger and an end for each of its calls, and an end for each message that it heard.
