@@ -1,9 +1,9 @@
 -- A hostile domain writes a producer index no more often than its acts say.
-use Rattle.std.proofs.Common.{◌≡◌, ℕ, suc, zero, ◌+◌, ◌≤◌, Bool, true, false, cond, Option, Some, None, List, [], ◌∷◌, ◌++◌, length, take, drop, slice_get, ◌%◌, ◌&&◌, refl, subst, sym, ap, ◌∙◌, arith, length-append}
+use Rattle.std.proofs.Common.{◌≡◌, ℕ, suc, zero, ◌+◌, ◌≤◌, Bool, true, false, cond, Option, Some, None, List, [], ◌∷◌, ◌++◌, length, take, drop, slice_get, ◌%◌, ◌&&◌, refl, subst, sym, ap, ◌∙◌, arith}
 use Rattle.std.specs.List.{flat_map, AllByRecursion as Each}
 use Rattle.std.specs.Option.{option_and_then, option_map_or}
 use Rattle.std.proofs.Math.Nat.{mul-le-mul_right}
-use Rattle.std.proofs.lemmas.List.{append-nil, length-take}
+use Rattle.std.proofs.lemmas.List.{append-nil}
 use Rattle.list_laws.proofs.Each.{each_weaker}
 use Rattle.ring_words.specs.Rings.{size, place as place_of}
 use Rattle.ring_words.specs.Page.{order_of}
@@ -17,13 +17,10 @@ use Rattle.ring_words.specs.declared.page.WordName.TheVariants.{LeftProd, RightP
 use Rattle.vchan_protocol.specs.declared.op.Op.{Op}
 use Rattle.vchan_protocol.specs.declared.op.Op.TheVariants.{Store, StoreByte, Or, And, Swap}
 use Rattle.vchan_protocol.specs.declared.op.PastEvent.{PastEvent}
-use Rattle.vchan_protocol.specs.declared.side.Side.{Side}
 use Rattle.vchan_protocol.specs.Table.Plan.{past}
 use Rattle.vchan_protocol.specs.Table.Ends.{read_ring, written_ring, prod_word, peer_pending, own_gone}
-use Rattle.vchan_protocol.specs.History.Core.{Core, side_of}
+use Rattle.vchan_protocol.specs.History.Core.{side_of}
 use Rattle.vchan_protocol.specs.History.Peer.{peer}
-use Rattle.vchan_protocol.specs.Hostile.TurnedLaw.{ConsumedLawful, TurnedLawful}
-use Rattle.vchan_protocol.proofs.Always.InvariantSteps.{each_has_invariant}
 use Rattle.hostile_seat.specs.Hostile.{byte_stores, say_events}
 use Rattle.scenario_file.specs.declared.acts.Act.{Act}
 use Rattle.scenario_file.specs.declared.acts.Act.TheVariants.{Poke, Scribble, Signal, Rest}
@@ -245,17 +242,8 @@ ends_are_of_acts_lem = (so_far, done)
 
 -- ---- what an honest end gets
 
-consumed_of_sent : (size : ℕ) (writer reader : Side) → ConsumedLawful size writer reader → writer.consumed ≤ length writer.sent
-consumed_of_sent size writer reader h =
-    omega (arith, h.within, length-take writer.consumed reader.got, length-append (take writer.consumed reader.got) h.begins.0, ap (λ (xs : List ℕ). length xs) h.begins.1)
-
-peer_consumed : (core : Core) (who : Role) → TurnedLawful core → (side_of core who).turned ≡ false → (side_of core (peer who)).turned ≡ true → (side_of core (peer who)).consumed ≤ length (side_of core (peer who)).sent
-peer_consumed core Server h honest given = consumed_of_sent (size core.orders.left) core.client core.server (h.left given honest)
-peer_consumed core Client h honest given = consumed_of_sent (size core.orders.right) core.server core.client (h.right given honest)
-
 pub taken_from_domains_lem : TakenFromDomains
 taken_from_domains_lem core who plan place may honest given acts =
     let theirs = side_of core (peer who) in
     let ring = read_ring who in
-    let few : 1 + shows_of ring theirs.trail ≤ 1 + all_shows place plan.acts = omega (arith, acts_show_few_lem plan place theirs.trail ring acts) in
-    omega (arith, taken_is_bounded_lem core who may honest given, mul-le-mul_right (size (order_of core.orders ring)) few, peer_consumed core who (each_has_invariant core may).turned honest given)
+    omega (arith, taken_is_bounded_lem core who may honest given, mul-le-mul_right (size (order_of core.orders ring)) (acts_show_few_lem plan place theirs.trail ring acts))

@@ -288,21 +288,21 @@ takes_stray orders words payload role mine theirs op taken w = go (shows_by ring
 
     go : (count : ℕ) → shows_by ring op ≡ count → Takes orders (words_after orders words payload op) role mine (strays theirs op taken)
     go zero none =
-        let few : 1 + shows_of ring theirs.trail ≤ 1 + shows_of ring (theirs.trail ++ past op taken ∷ []) = omega (arith, pushed) in
+        let few : shows_of ring theirs.trail ≤ shows_of ring (theirs.trail ++ past op taken ∷ []) = omega (arith, pushed) in
         subst (λ (prod : ℕ). TakesWithin order (most_taken ring (size order) (strays theirs op taken)) prod (length mine.got) mine.cons (summary role mine.trail))
         (sym (ap low32 (prod_stands orders words payload ring op none)))
         (takes_more order _ _ _ (length mine.got) mine.cons (summary role mine.trail)
         (omega (arith, mul-le-mul_right (size order) few)) w)
     go (suc count) some =
-        let few : 2 + shows_of ring theirs.trail ≤ 1 + shows_of ring (theirs.trail ++ past op taken ∷ []) = omega (arith, pushed, some) in
+        let few : 1 + shows_of ring theirs.trail ≤ shows_of ring (theirs.trail ++ past op taken ∷ []) = omega (arith, pushed, some) in
         takes_shown order _ _ _ _ (length mine.got) mine.cons (summary role mine.trail)
         (omega (arith, mul-le-mul_right (size order) few)) w
 
 -- ---- a peer is turned
 
--- what a ring of these counts holds at most
+-- in a ring of these counts no more waits than was sent
 takes_counts : (start : ℕ) (order : Order) (sent got count prod cons : ℕ) → prod ≡ index_at start sent → cons ≡ index_at start got → got + count ≤ sent → sent ≤ got + size order →
-    got + count + ready prod ((cons + count) % 2 ^ 32) order ≤ got + size order
+    got + count + ready prod ((cons + count) % 2 ^ 32) order ≤ sent
 takes_counts start order sent got count prod cons prod_is cons_is past_is fits =
     let moved : (cons + count) % 2 ^ 32 ≡ index_at start (got + count) = omega (arith, cons_is) in
     let ahead : diff (index_at start sent) (index_at start (got + count)) ≡ sent - (got + count) =
@@ -311,7 +311,7 @@ takes_counts start order sent got count prod cons prod_is cons_is past_is fits =
     subst (λ (d : ℕ). ready prod ((cons + count) % 2 ^ 32) order ≤ d) ahead
     (subst (λ (p : ℕ). ready prod ((cons + count) % 2 ^ 32) order ≤ diff p (index_at start (got + count))) prod_is
     (subst (λ (c : ℕ). ready prod ((cons + count) % 2 ^ 32) order ≤ diff prod c) moved (ready_diff prod ((cons + count) % 2 ^ 32) order))) in
-    omega (arith, waits, past_is, fits)
+    omega (arith, waits, past_is)
 
 takes_turned : (start : ℕ) (orders : Orders) (words : List ℕ) (role : Role) (mine theirs : Side) → mine.role ≡ role → IsLawful (channel_between start orders words (read_ring role) theirs mine) →
     Takes orders words role mine (turns theirs (length mine.got))
@@ -329,16 +329,23 @@ takes_turned start orders words role mine theirs role_is lawful =
 
     at_own : IsLawful (channel_between start orders words ring theirs mine) → Takes orders words mine.role mine (turns theirs (length mine.got))
     at_own w = record {
-      now = omega (arith, ready_within (low32 (word_at orders words (prod_word ring))) mine.cons order);
+      now =
+          let most = fits 0 (omega (arith, length-append mine.got w.prefix.0, ap (λ (xs : List ℕ). length xs) w.prefix.1)) in
+          let whole : (mine.cons + 0) % 2 ^ 32 ≡ mine.cons = omega (arith, w.own_cons) in
+          omega (arith, subst (λ (c : ℕ). length mine.got + 0 + ready prod c order ≤ length theirs.sent) whole most);
       looked = λ unreleased index older seen count few.
           let s = shows_bytes (channel_between start orders words ring theirs mine) index count older w (before unreleased) seen few in
-          let held : low32 (word_at orders words (prod_word ring)) ≡ index_at start (length theirs.sent) = omega (arith, w.prod) in
-          let most = takes_counts start order (length theirs.sent) (length mine.got) count _ mine.cons held w.own_cons (omega (arith, s.unread, s.within)) w.fits in
-          omega (arith, most);
+          omega (arith, fits count (omega (arith, s.unread, s.within)));
     }
       where
+        prod : ℕ
+        prod = low32 (word_at orders words (prod_word ring))
+
         before : done.released ≡ false → got_before mine ≡ length mine.got
         before unreleased = ap (λ (b : Bool). length mine.got - cond b (length done.loaded) 0) unreleased ∙ omega arith
+
+        fits : (count : ℕ) → length mine.got + count ≤ length theirs.sent → length mine.got + count + ready prod ((mine.cons + count) % 2 ^ 32) order ≤ length theirs.sent
+        fits count few = takes_counts start order (length theirs.sent) (length mine.got) count prod mine.cons (omega (arith, w.prod)) w.own_cons few w.fits
 
 -- ---- all that may happen
 

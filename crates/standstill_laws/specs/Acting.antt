@@ -64,9 +64,9 @@ EndsAreOfActs =
 abbrev pub ActsShowFew : Type 0
 ActsShowFew = (plan : HostilePlan) (place : PagePlace) (trail : List PastEvent) (ring : Ring) → IsOfActs plan place trail → shows_of ring trail ≤ all_shows place plan.acts
 
--- so an honest end gets no more from a hostile domain than the domain had sent before it was turned, and a ring's bytes for each time that its acts may write the index, and once more
+-- so an honest end gets no more from a hostile domain than the domain had sent before it was turned, and a ring's bytes for each time that its acts may write the index
 abbrev pub TakenFromDomains : Type 0
 TakenFromDomains =
     (core : Core) (who : Role) (plan : HostilePlan) (place : PagePlace) → MayCome core → (side_of core who).turned ≡ false → (side_of core (peer who)).turned ≡ true →
     IsOfActs plan place (side_of core (peer who)).trail →
-    length (side_of core who).got ≤ length (side_of core (peer who)).sent + (1 + all_shows place plan.acts) * size (order_of core.orders (read_ring who))
+    length (side_of core who).got ≤ length (side_of core (peer who)).sent + all_shows place plan.acts * size (order_of core.orders (read_ring who))

@@ -41,10 +41,10 @@ shows_of ring (event ∷ events) = shows_by ring event.op + shows_of ring events
 
 -- ---- the law
 
--- the most that an end gets from a peer that was turned, of a ring of this size: what it had got then, and a ring's bytes for each event of the hostile user
--- that wrote the producer index, and for the index as it stood at the turning
+-- the most that an end gets from a peer that was turned, of a ring of this size: what the peer had sent before, and a ring's bytes for each event of its hostile user
+-- that wrote the producer index
 abbrev pub most_taken : Ring → ℕ → Side → ℕ
-most_taken ring size theirs = theirs.consumed + (1 + shows_of ring theirs.trail) * size
+most_taken ring size theirs = length theirs.sent + shows_of ring theirs.trail * size
 
 -- an honest end gets no more from a peer that was turned, whatever happens
 abbrev pub TakenIsBounded : Type 0

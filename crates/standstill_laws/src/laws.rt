@@ -279,8 +279,8 @@ pub fn session_work_is_bounded()
     ensures { SessionWorkIsBounded }
 {}
 
-/// An honest end gets no more from a peer that was turned over to a hostile user than it had got then, and a ring's
-/// bytes for each event of that user that wrote the producer index, and for the index as it stood at the turning.
+/// An honest end gets no more from a peer that was turned over to a hostile user than that had sent before, and a ring's
+/// bytes for each event of that user that wrote the producer index.
 pub fn taken_is_bounded()
     ensures { TakenIsBounded }
 {}
@@ -298,7 +298,7 @@ pub fn acts_show_few()
 {}
 
 /// So an honest end gets no more from a hostile domain than that had sent before its end was turned, and a ring's bytes for
-/// each time that its acts may write the producer index of the page, and once more.
+/// each time that its acts may write the producer index of the page.
 pub fn taken_from_domains()
     ensures { TakenFromDomains }
 {}
