@@ -16,6 +16,7 @@ mod StandstillLaws
 mod CountingLaws
 mod BoundLaws
 mod SumLaws
+mod WeighingLaws
 mod PriceLaws
 mod TrafficLaws
 mod WorkLaws

@@ -35,8 +35,8 @@ use Rattle.task_duties.proofs.ControlLaw.{IsClean, agent_on_control, broker_on_c
 use Rattle.agent_task.specs.Ends.{session_told, session_asked, session_of_answer, sessions_owed}
 use Rattle.agent_task.specs.Telling.{heard_on}
 use Rattle.broker_task.specs.Lines.{BrokerEnd, heard_by}
-use Rattle.broker_task.specs.Standing.{IsAttended, Stands}
-use Rattle.standstill_laws.specs.Traffic.{sum_below, IsControlPage, AreControlPages}
+use Rattle.broker_task.specs.Standing.{IsAttended}
+use Rattle.standstill_laws.specs.Traffic.{sum_below, IsControlPage}
 use Rattle.standstill_laws.proofs.BoundLaws.{filtered_few}
 use Rattle.standstill_laws.proofs.SumLaws.{sum_more, sum_both, sum_none, one_has, has_one, sum_prefix, sum_part, sum_through, sum_together, sum_shorter, kept_prefix}
 
@@ -44,7 +44,11 @@ abbrev pub asks_for : List ℕ → List ℕ → List ℕ → Asking
 asks_for target ident service = record { target = target; service = service; ident = ident }
 
 -- what a message costs; and what a trigger costs at most, the report of a session's end, and the broker's answer to a trigger of a domain of this name, with the report to which its Exec leads
-pub record Prices (cost : Message → ℕ) (ask : Asking → ℕ) (report : ℕ) (reply : List ℕ → Asking → ℕ) : Type 0 where
+pub record Prices : Type 0 where
+  pub cost : Message → ℕ
+  pub ask : Asking → ℕ
+  pub report : ℕ
+  pub reply : List ℕ → Asking → ℕ
   pub trigger3 : (target ident service : List ℕ) → cost (Trigger3 target ident service) ≤ ask (asks_for target ident service)
   pub trigger : (target ident service : List ℕ) → cost (Trigger target ident service) ≤ ask (asks_for target ident service)
   pub terminated : (domain port : ℕ) → cost (Terminated domain port) ≤ report
@@ -81,54 +85,54 @@ asked_all : (d : ℕ) (a : Answers) (heard : List Message) → length (takes_all
 asked_all d a [] = refl
 asked_all d a (m ∷ heard) = asked_all d (takes d a m) heard ∙ asked_one d a m
 
-module _ (cost : Message → ℕ) (ask : Asking → ℕ) (report : ℕ) (reply : List ℕ → Asking → ℕ) (prices : Prices cost ask report reply) where
+module _ (p : Prices) where
   -- ---- what an agent says
 
-  pub said_costs : (said : List Message) → Each (λ m. to_broker m ≡ true) said → sum_by cost said ≤ sum_by ask (filter_map asking said) + sum_by (λ s. report) (filter_map session_told said)
+  pub said_costs : (said : List Message) → Each (λ m. to_broker m ≡ true) said → sum_by p.cost said ≤ sum_by p.ask (filter_map asking said) + sum_by (λ s. p.report) (filter_map session_told said)
   said_costs [] each = omega arith
   said_costs (m ∷ said) each = by m each.0 (said_costs said each.1)
     where
-      by : (n : Message) → to_broker n ≡ true → sum_by cost said ≤ sum_by ask (filter_map asking said) + sum_by (λ s. report) (filter_map session_told said)
-          → sum_by cost (n ∷ said) ≤ sum_by ask (cons_option (asking n) (filter_map asking said)) + sum_by (λ s. report) (cons_option (session_told n) (filter_map session_told said))
+      by : (n : Message) → to_broker n ≡ true → sum_by p.cost said ≤ sum_by p.ask (filter_map asking said) + sum_by (λ s. p.report) (filter_map session_told said)
+          → sum_by p.cost (n ∷ said) ≤ sum_by p.ask (cons_option (asking n) (filter_map asking said)) + sum_by (λ s. p.report) (cons_option (session_told n) (filter_map session_told said))
       by (Trigger3 target ident service) may few =
-          let one = sum_by-cons cost (Trigger3 target ident service) said in
-          let asked = sum_by-cons ask (asks_for target ident service) (filter_map asking said) in
-          omega (arith, few, one, asked, prices.trigger3 target ident service)
+          let one = sum_by-cons p.cost (Trigger3 target ident service) said in
+          let asked = sum_by-cons p.ask (asks_for target ident service) (filter_map asking said) in
+          omega (arith, few, one, asked, p.trigger3 target ident service)
       by (Trigger target ident service) may few =
-          let one = sum_by-cons cost (Trigger target ident service) said in
-          let asked = sum_by-cons ask (asks_for target ident service) (filter_map asking said) in
-          omega (arith, few, one, asked, prices.trigger target ident service)
+          let one = sum_by-cons p.cost (Trigger target ident service) said in
+          let asked = sum_by-cons p.ask (asks_for target ident service) (filter_map asking said) in
+          omega (arith, few, one, asked, p.trigger target ident service)
       by (Terminated domain port) may few =
-          let one = sum_by-cons cost (Terminated domain port) said in
-          let told = sum_by-cons (λ (s : ℕ × ℕ). report) (domain, port) (filter_map session_told said) in
-          omega (arith, few, one, told, prices.terminated domain port)
+          let one = sum_by-cons p.cost (Terminated domain port) said in
+          let told = sum_by-cons (λ (s : ℕ × ℕ). p.report) (domain, port) (filter_map session_told said) in
+          omega (arith, few, one, told, p.terminated domain port)
       by _ may few = cc
 
   -- ---- what is said to an agent, each Exec with the report to which it leads
 
-  abbrev due : Option (ℕ × ℕ) → ℕ
+  abbrev pub due : Option (ℕ × ℕ) → ℕ
   due None = 0
-  due (Some session) = report
+  due (Some session) = p.report
 
-  abbrev whole : Message → ℕ
-  whole m = cost m + due (session_asked m)
+  abbrev pub whole : Message → ℕ
+  whole m = p.cost m + due (session_asked m)
 
   -- the reports that are owed for these
   abbrev owed : List Message → ℕ
-  owed messages = sum_by (λ s. report) (filter_map session_asked messages)
+  owed messages = sum_by (λ s. p.report) (filter_map session_asked messages)
 
-  told_costs : (said : List Message) → sum_by cost said + owed said ≡ sum_by whole said
+  told_costs : (said : List Message) → sum_by p.cost said + owed said ≡ sum_by whole said
   told_costs [] = omega arith
-  told_costs (m ∷ said) = omega (arith, told_costs said, sum_by-cons cost m said, sum_by-cons whole m said, by (session_asked m))
+  told_costs (m ∷ said) = omega (arith, told_costs said, sum_by-cons p.cost m said, sum_by-cons whole m said, by (session_asked m))
     where
-      by : (o : Option (ℕ × ℕ)) → sum_by (λ (s : ℕ × ℕ). report) (cons_option o (filter_map session_asked said)) ≡ due o + owed said
+      by : (o : Option (ℕ × ℕ)) → sum_by (λ (s : ℕ × ℕ). p.report) (cons_option o (filter_map session_asked said)) ≡ due o + owed said
       by None = omega arith
-      by (Some session) = sum_by-cons (λ (s : ℕ × ℕ). report) session (filter_map session_asked said)
+      by (Some session) = sum_by-cons (λ (s : ℕ × ℕ). p.report) session (filter_map session_asked said)
 
   -- ---- what a journal puts into all outboxes
 
-  abbrev bill : Domains → Event → ℕ
-  bill hub (event.Trigger from target service ident) = reply (name_of hub from) (asks_for target ident service)
+  abbrev pub bill : Domains → Event → ℕ
+  bill hub (event.Trigger from target service ident) = p.reply (name_of hub from) (asks_for target ident service)
   bill hub _ = 0
 
   only_costs : (b : Bool) (m : Message) → sum_by whole (only_if b m) ≡ (if b then whole m else 0)
@@ -143,7 +147,7 @@ module _ (cost : Message → ℕ) (ask : Asking → ℕ) (report : ℕ) (reply :
       let both = sum_both n connects serves_it in
       let first = one_has n from (whole connect) in
       let second = one_has n to (whole exec) in
-      let price = prices.accepts from to port (name_of hub from) target ident service in
+      let price = p.accepts from to port (name_of hub from) target ident service in
       omega (arith, each, both, first, second, price)
     where
       connect : Message
@@ -160,7 +164,7 @@ module _ (cost : Message → ℕ) (ask : Asking → ℕ) (report : ℕ) (reply :
       let each = sum_more n (λ place. sum_by whole (puts hub (place + 1) (event.Trigger from target service ident) (RefusedFor cause))) (λ place. if place + 1 == from then whole (Refused ident) else 0)
       (λ place less. omega (arith, only_costs (place + 1 == from) (Refused ident))) in
       let first = one_has n from (whole (Refused ident)) in
-      let price = prices.refuses (name_of hub from) target ident service in
+      let price = p.refuses (name_of hub from) target ident service in
       omega (arith, each, first, price)
   entry_costs hub n (event.Trigger from target service ident) (Ended caller server port) = omega (arith, sum_none n)
   entry_costs hub n (event.Trigger from target service ident) PassedOver = omega (arith, sum_none n)
@@ -207,64 +211,72 @@ module _ (cost : Message → ℕ) (ask : Asking → ℕ) (report : ℕ) (reply :
       omega (arith, one, rest, both, each, bills)
 
   -- the events of a domain are billed as its triggers
-  read_costs : (hub : Domains) (d : ℕ) (heard : List Message) → sum_by (bill hub) (filter_map (event_of d) heard) ≡ sum_by (reply (name_of hub d)) (filter_map asking heard)
+  pub read_costs : (hub : Domains) (d : ℕ) (heard : List Message) → sum_by (bill hub) (filter_map (event_of d) heard) ≡ sum_by (p.reply (name_of hub d)) (filter_map asking heard)
   read_costs hub d [] = refl
   read_costs hub d (m ∷ heard) = by m (read_costs hub d heard)
     where
-      by : (n : Message) → sum_by (bill hub) (filter_map (event_of d) heard) ≡ sum_by (reply (name_of hub d)) (filter_map asking heard)
-          → sum_by (bill hub) (cons_option (event_of d n) (filter_map (event_of d) heard)) ≡ sum_by (reply (name_of hub d)) (cons_option (asking n) (filter_map asking heard))
+      by : (n : Message) → sum_by (bill hub) (filter_map (event_of d) heard) ≡ sum_by (p.reply (name_of hub d)) (filter_map asking heard)
+          → sum_by (bill hub) (cons_option (event_of d n) (filter_map (event_of d) heard)) ≡ sum_by (p.reply (name_of hub d)) (cons_option (asking n) (filter_map asking heard))
       by (Trigger3 target ident service) rest =
-          omega (arith, rest, sum_by-cons (bill hub) (event.Trigger d target service ident) (filter_map (event_of d) heard), sum_by-cons (reply (name_of hub d)) (asks_for target ident service) (filter_map asking heard))
+          omega (arith, rest, sum_by-cons (bill hub) (event.Trigger d target service ident) (filter_map (event_of d) heard), sum_by-cons (p.reply (name_of hub d)) (asks_for target ident service) (filter_map asking heard))
       by (Trigger target ident service) rest =
-          omega (arith, rest, sum_by-cons (bill hub) (event.Trigger d target service ident) (filter_map (event_of d) heard), sum_by-cons (reply (name_of hub d)) (asks_for target ident service) (filter_map asking heard))
+          omega (arith, rest, sum_by-cons (bill hub) (event.Trigger d target service ident) (filter_map (event_of d) heard), sum_by-cons (p.reply (name_of hub d)) (asks_for target ident service) (filter_map asking heard))
       by (Terminated domain port) rest = omega (arith, rest, sum_by-cons (bill hub) (event.Terminated d domain port) (filter_map (event_of d) heard))
       by _ rest = rest
 
   -- ---- one control page
 
+  -- what a call costs its domain, with the report of its end, and the broker
+  abbrev pub own_price : CallPlan → ℕ
+  own_price c = p.ask (asking_of c) + p.report
+
+  abbrev pub reply_price : List ℕ → CallPlan → ℕ
+  reply_price name c = p.reply name (asking_of c)
+
+  abbrev pub price : List ℕ → CallPlan → ℕ
+  price name c = own_price c + reply_price name c
+
+  pub both_prices : (greet : ℕ) (name : List ℕ) (calls : List CallPlan) → (greet + sum_by own_price calls) + sum_by (reply_price name) calls ≡ greet + sum_by (price name) calls
+  both_prices greet name calls = omega (arith, sum_together own_price (reply_price name) calls)
+
   -- what the agent of a domain says, and what is said to it
   page_costs : (plan : AgentPlan) (said told heard put : List Message) → Each (λ m. to_broker m ≡ true) said → IsPrefixOf (filter_map asking said) (map asking_of plan.calls) → IsPartOf (filter_map session_told said) (sessions_owed (answers plan heard).asked heard)
-      → IsPrefixOf heard told → IsPartOf told put → sum_by cost said + sum_by cost told ≤ sum_by (λ c. ask (asking_of c) + report) plan.calls + sum_by whole put
+      → IsPrefixOf heard told → IsPartOf told put → sum_by p.cost said + sum_by p.cost told ≤ sum_by own_price plan.calls + sum_by whole put
   page_costs plan said told heard put may in_order once begins part =
       let own : List (ℕ × ℕ) = filter_map (λ a. session_of_answer a.answer) (answers plan heard).asked in
       let served : List (ℕ × ℕ) = filter_map session_asked heard in
       let says = said_costs said may in
-      let asks = sum_prefix ask (filter_map asking said) (map asking_of plan.calls) in_order in
-      let asks_are = sum_through ask asking_of plan.calls in
-      let reports = sum_part (λ s. report) (filter_map session_told said) (sessions_owed (answers plan heard).asked heard) once in
-      let parted = sum_by-append (λ s. report) own served in
+      let asks = sum_prefix p.ask (filter_map asking said) (map asking_of plan.calls) in_order in
+      let asks_are = sum_through p.ask asking_of plan.calls in
+      let reports = sum_part (λ s. p.report) (filter_map session_told said) (sessions_owed (answers plan heard).asked heard) once in
+      let parted = sum_by-append (λ s. p.report) own served in
       let few = filtered_few (λ a. session_of_answer a.answer) (answers plan heard).asked in
       let calls = asked_all plan.domain (nothing_heard plan) heard in
       let all = length-map {B = Asked} plan.calls (λ call. record { call = call; answer = Waits }) in
-      let of_calls = sum_shorter report own plan.calls (omega (arith, few, calls, all)) in
-      let of_execs = sum_prefix (λ s. report) served (filter_map session_asked told) (kept_prefix session_asked heard told begins) in
-      let price = sum_together (λ (c : CallPlan). ask (asking_of c)) (λ (c : CallPlan). report) plan.calls in
+      let of_calls = sum_shorter p.report own plan.calls (omega (arith, few, calls, all)) in
+      let of_execs = sum_prefix (λ s. p.report) served (filter_map session_asked told) (kept_prefix session_asked heard told begins) in
+      let both = sum_together (λ (c : CallPlan). p.ask (asking_of c)) (λ (c : CallPlan). p.report) plan.calls in
       let tells = told_costs told in
       let puts_it = sum_part whole told put part in
-      omega (arith, says, asks, asks_are, reports, parted, of_calls, of_execs, price, tells, puts_it)
+      omega (arith, says, asks, asks_are, reports, parted, of_calls, of_execs, both, tells, puts_it)
 
   -- what the broker has read of it
   reading_costs : (hub : Domains) (d : ℕ) (plan : AgentPlan) (said heard : List Message) → IsPrefixOf (filter_map asking said) (map asking_of plan.calls) → IsPrefixOf heard said
-      → sum_by (bill hub) (filter_map (event_of d) heard) ≤ sum_by (λ c. reply (name_of hub d) (asking_of c)) plan.calls
+      → sum_by (bill hub) (filter_map (event_of d) heard) ≤ sum_by (reply_price (name_of hub d)) plan.calls
   reading_costs hub d plan said heard in_order begins =
       let bills = read_costs hub d heard in
       let calls = prefix_trans (filter_map asking heard) (filter_map asking said) (map asking_of plan.calls) (kept_prefix asking heard said begins) in_order in
-      let few = sum_prefix (reply (name_of hub d)) (filter_map asking heard) (map asking_of plan.calls) calls in
-      let are = sum_through (reply (name_of hub d)) asking_of plan.calls in
+      let few = sum_prefix (p.reply (name_of hub d)) (filter_map asking heard) (map asking_of plan.calls) calls in
+      let are = sum_through (p.reply (name_of hub d)) asking_of plan.calls in
       omega (arith, bills, few, are)
 
-  -- ---- all control pages
-
-  abbrev price : List ℕ → CallPlan → ℕ
-  price name c = (ask (asking_of c) + report) + reply name (asking_of c)
-
-  -- the two sides of one page, by the messages that its agent has said and those that were said to that
-  both_costs : (hub : Domains) (journal : List Entry) (ends : List BrokerEnd) (plan : AgentPlan) (core : Core) (place : ℕ) (said : ℕ → List Message) (page : IsControlPage ends place plan core) → IsAttended hub journal said (place + 1) page.end
-      → (sum_by cost page.spoken.once.said + sum_by cost (said (place + 1)) ≤ sum_by (λ c. ask (asking_of c) + report) plan.calls + sum_by whole (outbox hub journal (place + 1)))
-      × (sum_by (bill hub) (read_from journal (place + 1)) ≤ sum_by (λ c. reply (name_of hub (place + 1)) (asking_of c)) plan.calls)
+  -- the two sides of one page between honest ends, by the messages that its agent has said and those that were said to that
+  pub both_costs : (hub : Domains) (journal : List Entry) (ends : List BrokerEnd) (plan : AgentPlan) (core : Core) (place : ℕ) (said : ℕ → List Message) (page : IsControlPage ends place plan core) → IsAttended hub journal said (place + 1) page.end
+      → (sum_by p.cost page.spoken.once.said + sum_by p.cost (said (place + 1)) ≤ sum_by own_price plan.calls + sum_by whole (outbox hub journal (place + 1)))
+      × (sum_by (bill hub) (read_from journal (place + 1)) ≤ sum_by (reply_price (name_of hub (place + 1))) plan.calls)
   both_costs hub journal ends plan core place said page attended = (
     page_costs plan own (said (place + 1)) (heard_on plan page.control).messages (outbox hub journal (place + 1)) may page.spoken.in_order page.spoken.once.told (clean_prefix (said (place + 1)) (heard_on plan page.control) down) attended.from_journal,
-    subst (λ (es : List Event). sum_by (bill hub) es ≤ sum_by (λ c. reply (name_of hub (place + 1)) (asking_of c)) plan.calls) (sym attended.reads)
+    subst (λ (es : List Event). sum_by (bill hub) es ≤ sum_by (reply_price (name_of hub (place + 1))) plan.calls) (sym attended.reads)
         (reading_costs hub (place + 1) plan own (heard_by page.end.view).messages page.spoken.in_order (clean_prefix own (heard_by page.end.view) up)),
   )
     where
@@ -286,23 +298,23 @@ module _ (cost : Message → ℕ) (ask : Asking → ℕ) (report : ℕ) (reply :
       up : IsClean own (heard_by page.end.view)
       up = control_bytes_lem broker_version plan.version to_broker broker_on_control own page.control.sent page.end.view.got page.spoken.version.least page.spoken.version.small page.spoken.once.says came_up
 
-  pub all_costs : (hub : Domains) (journal : List Entry) (ends : List BrokerEnd) (plans : ℕ → AgentPlan) (pages : ℕ → Core) (stands : Stands hub journal ends) (are : AreControlPages (count_of hub) ends plans pages) (greet : ℕ) (f : ℕ → ℕ)
-      → ((place : ℕ) (less : place < count_of hub) → f place ≤ greet + (sum_by cost (are place less).spoken.once.said + sum_by cost (stands.said (place + 1))))
-      → sum_below (count_of hub) f ≤ sum_below (count_of hub) (λ place. greet + sum_by (price (name_of hub (place + 1))) (plans place).calls)
-  all_costs hub journal ends plans pages stands are greet f each =
+  -- ---- all control pages
+
+  -- what is said to a domain was put into its outbox
+  pub put_costs : (told put : List Message) → IsPartOf told put → sum_by p.cost told ≤ sum_by whole put
+  put_costs told put part = omega (arith, told_costs told, sum_part whole told put part)
+
+  -- What the pages of all domains cost, where each costs no more than what is said on it and what the journal puts into its domain's outbox, and no domain's triggers are billed more than is due for them.
+  pub all_costs : (hub : Domains) (journal : List Entry) → AreNumbered hub journal → (f says replies : ℕ → ℕ) → ((place : ℕ) → place < count_of hub → f place ≤ says place + sum_by whole (outbox hub journal (place + 1)))
+      → ((place : ℕ) → place < count_of hub → sum_by (bill hub) (read_from journal (place + 1)) ≤ replies place) → sum_below (count_of hub) f ≤ sum_below (count_of hub) (λ place. says place + replies place)
+  all_costs hub journal numbered f says replies each billed =
       let n : ℕ = count_of hub in
-      let says : ℕ → ℕ = λ place. greet + sum_by (λ c. ask (asking_of c) + report) (plans place).calls in
       let posts : ℕ → ℕ = λ place. sum_by whole (outbox hub journal (place + 1)) in
       let reads : ℕ → ℕ = λ place. sum_by (bill hub) (read_from journal (place + 1)) in
-      let replies : ℕ → ℕ = λ place. sum_by (λ c. reply (name_of hub (place + 1)) (asking_of c)) (plans place).calls in
-      let all : ℕ → ℕ = λ place. greet + sum_by (price (name_of hub (place + 1))) (plans place).calls in
-      let page : (place : ℕ) → place < n → _ = λ place less. both_costs hub journal ends (plans place) (pages place) place stands.said (are place less) (stands.each place (are place less).end (are place less).there) in
-      let said = sum_more n f (λ place. says place + posts place) (λ place less. omega (arith, each place less, (page place less).0)) in
+      let said = sum_more n f (λ place. says place + posts place) each in
       let apart = sum_both n says posts in
       let posted = posted_costs hub n journal in
-      let read = read_of_all hub journal stands.numbered in
-      let replied = sum_more n reads replies (λ place less. (page place less).1) in
+      let read = read_of_all hub journal numbered in
+      let replied = sum_more n reads replies billed in
       let joined = sum_both n says replies in
-      let whole_price = sum_more n (λ place. says place + replies place) all
-      (λ place less. omega (arith, sum_together (λ (c : CallPlan). ask (asking_of c) + report) (λ (c : CallPlan). reply (name_of hub (place + 1)) (asking_of c)) (plans place).calls)) in
-      omega (arith, said, apart, posted, read, replied, joined, whole_price)
+      omega (arith, said, apart, posted, read, replied, joined)

@@ -1,7 +1,8 @@
 -- Sums over the domains, and over lists.
-use Rattle.std.proofs.Common.{◌≡◌, ◌≢◌, ◌⊎◌, ℕ, zero, suc, ◌+◌, ◌<◌, ◌≤◌, ◌==◌, Bool, true, false, List, [], ◌∷◌, ◌++◌, length, map, if◌then◌else◌, Option, refl, sym, ap, ◌∙◌, arith, inl, inr}
+use Rattle.std.proofs.Common.{◌≡◌, ◌≢◌, ◌⊎◌, ℕ, zero, suc, ◌+◌, ◌<◌, ◌≤◌, ◌==◌, Bool, true, false, List, [], ◌∷◌, ◌++◌, length, map, if◌then◌else◌, Option, Some, None, refl, sym, ap, ◌∙◌, arith, inl, inr}
 use Rattle.std.specs.Prelude.{filter_map}
-use Rattle.std.specs.List.{sum_by}
+use Rattle.std.specs.List.{sum_by, cons_option}
+use Rattle.std.specs.Option.{option_map_or}
 use Rattle.std.proofs.lemmas.Bool.Decides.{eqb_tells}
 use Rattle.std.proofs.lemmas.List.Elements.{filter_map-append}
 use Rattle.std.proofs.lemmas.List.Recursion.{is_sum_by}
@@ -75,3 +76,12 @@ sum_shorter {X} {Y} k (x ∷ xs) (y ∷ ys) few =
 
 pub kept_prefix : {X Y : Type 0} (f : X → Option Y) (xs ys : List X) → IsPrefixOf xs ys → IsPrefixOf (filter_map f xs) (filter_map f ys)
 kept_prefix f xs ys begins = (filter_map f begins.0, sym (filter_map-append f xs begins.0) ∙ ap (filter_map f) begins.1)
+
+-- what some of the elements give, and the others nothing
+pub sum_filtered : {X Y : Type 0} (f : Y → ℕ) (g : X → Option Y) (xs : List X) → sum_by f (filter_map g xs) ≡ sum_by (λ x. option_map_or f (g x) 0) xs
+sum_filtered f g [] = refl
+sum_filtered {X} {Y} f g (x ∷ xs) = omega (arith, by (g x), sum_by-cons (λ (z : X). option_map_or f (g z) 0) x xs, sum_filtered f g xs)
+  where
+    by : (found : Option Y) → sum_by f (cons_option found (filter_map g xs)) ≡ option_map_or f found 0 + sum_by f (filter_map g xs)
+    by None = omega arith
+    by (Some y) = sum_by-cons f y (filter_map g xs)

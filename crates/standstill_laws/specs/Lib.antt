@@ -27,3 +27,4 @@ pub mod Idle
 pub mod Stretches
 pub mod Leaving
 pub mod Hostile
+pub mod Mixed

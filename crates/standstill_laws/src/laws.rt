@@ -18,6 +18,7 @@ ghost use Rattle.standstill_laws.specs.Traffic.{AgentsSpeak, ControlMessagesAreF
 ghost use Rattle.standstill_laws.specs.Work.{SidesSendSo, RunWorkIsBounded, RunTurnsAreBounded};
 ghost use Rattle.standstill_laws.specs.Taking.{TakenIsBounded};
 ghost use Rattle.standstill_laws.specs.Acting.{EndsAreOfActs, ActsShowFew, TakenFromDomains};
+ghost use Rattle.standstill_laws.specs.Mixed.{ControlBytesAreBounded};
 ghost use Rattle.standstill_laws.specs.Stretch.{ControlPagesRest, DataPagesRest, StretchesRest};
 ghost use Rattle.standstill_laws.specs.Moments.{MomentsRest, PagesGoOn};
 ghost use Rattle.standstill_laws.specs.Pace.{NoSessionRests};
@@ -330,6 +331,12 @@ pub fn control_messages_are_few()
 /// those of the service's name.
 pub fn control_bytes_are_few()
     ensures { ControlBytesAreFew }
+{}
+
+/// With hostile domains the honest ends of all control pages send so many bytes for the calls of honest ones, and for each
+/// hostile one 12, and two and those of its name for each byte that the broker may get of it by its acts.
+pub fn control_bytes_are_bounded()
+    ensures { ControlBytesAreBounded }
 {}
 
 /// What a side of a session has sent, by what it has got and by the input of its call or by its service, while the
