@@ -1,11 +1,13 @@
 -- How much a session sends at most, how much both its sides do, and how many messages an agent says and an outbox holds.
-use Rattle.std.proofs.Common.{◌≡◌, ℕ, ◌+◌, ◌*◌, ◌<◌, ◌≤◌, zero, suc, Bool, true, false, List, [], ◌∷◌, ◌++◌, length, length-append, append-nil, map, take, if◌then◌else◌, Option, Some, None, refl, sym, ap, ◌∙◌, subst, arith, lit<}
-use Rattle.std.specs.Prelude.{◌%◌, ◌^◌, decimal, min, filter, filter_map, ◌==◌, nat_lt, not, MatchBool, MatchOption}
+use Rattle.std.proofs.Common.{◌≡◌, ℕ, ◌+◌, ◌*◌, ◌<◌, ◌≤◌, zero, suc, Bool, true, false, List, [], ◌∷◌, ◌++◌, length, length-append, append-nil, map, take, if◌then◌else◌, Option, Some, None, refl, sym, ap, ◌∙◌, subst, arith, lit<, inl, inr}
+use Rattle.std.specs.Prelude.{◌⊎◌, ◌%◌, ◌^◌, decimal, min, filter, filter_map, ◌==◌, nat_lt, not, MatchBool, MatchOption}
 use Rattle.std.specs.Char.{to_ascii_uppercase}
 use Rattle.std.proofs.lemmas.Fmt.{length-decimal-le}
 use Rattle.std.proofs.lemmas.List.{length-map, length-take, map-append}
 use Rattle.std.proofs.lemmas.Bool.Decides.{nat_tests}
-use Rattle.std.specs.List.{flat_map, cons_option, AllByRecursion as Each}
+use Rattle.std.proofs.lemmas.Bool.{cases_Bool}
+use Rattle.std.proofs.lemmas.List.Recursion.{is_sum_by}
+use Rattle.std.specs.List.{sum_by, flat_map, cons_option, AllByRecursion as Each}
 use Rattle.list_laws.specs.Lists.{IsPrefixOf}
 use Rattle.list_laws.proofs.Prefixes.{prefix_length, prefix_trans}
 use Rattle.vchan_protocol.specs.declared.side.Side.{Side}
@@ -15,7 +17,7 @@ use Rattle.vchan_rule.specs.Seated.{view}
 use Rattle.qrexec_frame.specs.declared.message.Message.{Message}
 use Rattle.qrexec_frame.specs.declared.message.Message.TheVariants.{Hello, Stdin, ExitCode, Exec, Connect, Refused}
 use Rattle.qrexec_frame.specs.declared.kind.Channel.TheVariants.{Data}
-use Rattle.qrexec_frame.specs.Grammar.{Fault}
+use Rattle.qrexec_frame.specs.Grammar.{Fault, Spelled}
 use Rattle.qrexec_frame.specs.Fronts.{front, reading}
 use Rattle.qrexec_frame.specs.Laws.{IsGood}
 use Rattle.qrexec_frame.specs.Streams.{Placed, Ending, Begins as BeginsWith}
@@ -45,6 +47,7 @@ use Rattle.call_broker.specs.Domains.{name_of}
 use Rattle.task_duties.specs.Words.{exec_line}
 use Rattle.task_duties.specs.Broker.Outbox.{only_if, puts, outbox}
 use Rattle.standstill_laws.proofs.SessionLaws.{good_hello, input_good, most_fits}
+use Rattle.standstill_laws.proofs.WeighingLaws.{read_weighs, stdin_few}
 use Rattle.standstill_laws.specs.Bounds.{most_requested, most_answered, SessionsSendLittle, SessionWorkIsBounded, OutboxesHoldFew}
 
 -- ---- messages
@@ -224,6 +227,33 @@ sees_little (p ∷ placed) e before = by p.message (λ now. sees_little placed e
         input false = let here = joined_len In piece (next (piece ∷ before)).pieces in omega (arith, here, rest (piece ∷ before))
     by _ rest = omega arith
 
+-- of any bytes it sees no more input than these are
+inputs_sum : (messages : List Message) → inputs_in messages ≡ sum_by input_in messages
+inputs_sum messages = is_sum_by inputs_in input_in refl (λ m rest. refl) messages
+
+input_spelled : (bytes : List ℕ) (m : Message) → Spelled Data bytes m → input_in m ≤ 1 * length bytes
+input_spelled bytes (Stdin input) spelled = let few = stdin_few Data bytes input spelled in omega (arith, few)
+input_spelled bytes _ spelled = omega arith
+
+pub seen_little : (got : List ℕ) → length (serving_sees got).input ≤ length got
+seen_little got =
+    let weighs = read_weighs Data input_in 1 input_spelled got in
+    let sum = inputs_sum (the_messages (reading Data got).placed) in
+    let seen = by_placed (reading Data got).placed (reading Data got).ending in
+    omega (arith, weighs, sum, seen)
+  where
+    by_placed : (placed : List (Placed Message)) (e : Ending Fault) → length (joined In (sees_all serving_use placed e).pieces) ≤ inputs_in (the_messages placed)
+    by_placed [] e = omega arith
+    by_placed (p ∷ placed) e = by p.message
+      where
+        by : (m : Message) → length (joined In (sees_all serving_use (record { at = p.at; message = m } ∷ placed) e).pieces) ≤ input_in m + inputs_in (the_messages placed)
+        by (Hello version) = omega (arith, by_version (cases_Bool (nat_lt version 2)))
+          where
+            by_version : ((nat_lt version 2 ≡ true) ⊎ (nat_lt version 2 ≡ false)) → length (joined In (sees_all serving_use (record { at = p.at; message = Hello version } ∷ placed) e).pieces) ≤ inputs_in (the_messages placed)
+            by_version (inl low) = rw low (omega arith)
+            by_version (inr big) = rw big (sees_little placed e [])
+        by _ = omega arith
+
 take_little : (k : ℕ) (messages : List Message) → inputs_in (take k messages) ≤ inputs_in messages
 take_little (suc k) (m ∷ messages) = let rest = take_little k messages in omega (arith, rest)
 take_little _ _ = omega arith
@@ -291,7 +321,7 @@ count_len n =
     let digits = length-decimal-le 20 (n % 2 ^ 64) (lit< tt) (omega (arith, small)) (omega (arith, small)) in
     omega (arith, digits, length-append (decimal (n % 2 ^ 64)) (10 ∷ []))
 
-owed_little : (state : State) (input : List ℕ) → length (state_owes state input).stdout + length (state_owes state input).stderr ≤ length input + 21
+pub owed_little : (state : State) (input : List ℕ) → length (state_owes state input).stdout + length (state_owes state input).stderr ≤ length input + 21
 owed_little Upper input = omega (arith, length-map input to_ascii_uppercase)
 owed_little (Count taken) input = omega (arith, count_len (taken + length input))
 owed_little (First left) input = omega (arith, length-take left input)

@@ -11,7 +11,7 @@ use Rattle.standstill_laws.specs.Counting.{TurnMade, tasks_after, AreMade, NoneI
 use Rattle.standstill_laws.specs.Stretches.{turns_of, IsHonestPlace, IsFair, StretchesAreShort, FairTurnsAreBounded, FairRunsAreBounded}
 use Rattle.standstill_laws.proofs.OwnLaws.{turns_append, turns_same}
 use Rattle.standstill_laws.proofs.CountingLaws.{turns_are_bounded_lem}
-use Rattle.standstill_laws.proofs.WorkLaws.{run_turns_are_bounded_lem}
+use Rattle.standstill_laws.proofs.MixedLaws.{run_turns_are_bounded_lem}
 use Rattle.standstill_laws.proofs.StretchesLaws.{no_stretch_lasts_lem}
 
 -- ---- lists of turns

@@ -1,6 +1,7 @@
 -- Once the broker is done its agents end soon, if each that isn't done has its turns.
 use Rattle.std.proofs.Common.{◌≡◌, ◌≢◌, ◌⊎◌, ℕ, ◌+◌, ◌-◌, ◌*◌, ◌<◌, ◌≤◌, Bool, true, false, List, [], ◌∷◌, ◌++◌, length, length-append, append_assoc, None, refl, sym, ap, ◌∙◌, subst, arith, inl, inr}
 use Rattle.std.specs.List.{AllByRecursion as Each}
+use Rattle.std.proofs.lemmas.Nat.{mul-le}
 use Rattle.list_laws.proofs.Each.{each_front, each_back}
 use Rattle.ring_words.specs.declared.page.Role.TheVariants.{Server}
 use Rattle.call_broker.specs.Domains.{Domains, count_of}
@@ -8,10 +9,11 @@ use Rattle.agent_slots.specs.Sessions.{session_at}
 use Rattle.agent_task.specs.State.{TellsSoFar}
 use Rattle.domain_task.specs.declared.task.Task.{Task}
 use Rattle.domain_task.specs.Working.{DoesNothing}
-use Rattle.standstill_laws.specs.Counting.{TurnMade, AreMade, NoStretchRests}
+use Rattle.standstill_laws.specs.Counting.{TurnMade, AreMade, work_of_all, NoStretchRests}
 use Rattle.standstill_laws.specs.Idle.{RunPage, RunPages, ChannelFound}
 use Rattle.standstill_laws.specs.Stretches.{turns_of}
 use Rattle.standstill_laws.specs.Leaving.{AgentStands, NoAgentLasts, LeavingIsShort, IsFairRun, WholeTurnsAreBounded, WholeRunsAreBounded}
+use Rattle.standstill_laws.specs.Mixed.{mixed_work, MixedRunsAreBounded}
 use Rattle.standstill_laws.proofs.PaceLaws.{peer_was_there}
 use Rattle.standstill_laws.proofs.StandstillLaws.{none_opened}
 use Rattle.standstill_laws.proofs.StretchesLaws.{made_both, agent_drain, session_shut}
@@ -19,7 +21,7 @@ use Rattle.standstill_laws.proofs.IdleLaws.{AgentTurn, agent_turn}
 use Rattle.standstill_laws.proofs.OwnLaws.{makes_one, turns_append}
 use Rattle.standstill_laws.proofs.FairLaws.{cut, rounds, made_split, stretches_are_short_lem}
 use Rattle.standstill_laws.proofs.CountingLaws.{turns_are_bounded_lem}
-use Rattle.standstill_laws.proofs.WorkLaws.{run_turns_are_bounded_lem}
+use Rattle.standstill_laws.proofs.MixedLaws.{mixed_work_is_bounded_lem, run_turns_are_bounded_lem}
 
 -- ---- one agent
 
@@ -127,3 +129,10 @@ whole_runs_are_bounded_lem hub honest round first mid last during afterwards bro
     let made = made_both (count_of hub + 1) first mid last during afterwards run.made run.made_after in
     let few = run_turns_are_bounded_lem hub (16 * round + 1) first last (during ++ afterwards) broker agents (omega arith) made none all_honest in
     omega (arith, few, length-append during afterwards)
+
+pub mixed_runs_are_bounded_lem : MixedRunsAreBounded
+mixed_runs_are_bounded_lem hub honest round first mid last during afterwards broker agents hostiles run mixed =
+    let work = mixed_work_is_bounded_lem hub honest last broker agents hostiles mixed in
+    let few = whole_turns_are_bounded_lem hub honest round first mid last during afterwards run in
+    let more = mul-le (work_of_all (count_of hub + 1) last + 1) (16 * round + 1) (mixed_work hub honest agents hostiles + 1) (16 * round + 1) (omega (arith, work)) (omega arith) in
+    omega (arith, few, more)

@@ -22,6 +22,7 @@ mod TrafficLaws
 mod WorkLaws
 mod TakingLaws
 mod ActingLaws
+mod MixedLaws
 mod KeepingLaws
 mod OwnLaws
 mod SideLaws

@@ -70,14 +70,17 @@ pub record SidesSendSo : Type 0 where
 
 -- ---- all tasks
 
+-- the lists of the places before this one, one after the other
+abbrev pub all_below : {X : Type 0} → ℕ → (ℕ → List X) → List X
+all_below zero each = []
+all_below (suc place) each = all_below place each ++ each place
+
 -- the sessions of the agents before this place, and their calls
 abbrev pub sessions_below : ℕ → (ℕ → AgentState) → List Session
-sessions_below zero agents = []
-sessions_below (suc place) agents = sessions_below place agents ++ (agents place).sessions
+sessions_below place agents = all_below place (λ p. (agents p).sessions)
 
 abbrev pub calls_below : ℕ → (ℕ → AgentState) → List CallPlan
-calls_below zero agents = []
-calls_below (suc place) agents = calls_below place agents ++ (agents place).plan.calls
+calls_below place agents = all_below place (λ p. (agents p).plan.calls)
 
 -- the tasks of a run of honest domains, the broker's first, as they are or as they were before the turn in which they were done
 pub record IsHonestRun (hub : Domains) (tasks : ℕ → Task) (broker : BrokerState) (agents : ℕ → AgentState) : Type 0 where

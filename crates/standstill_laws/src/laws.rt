@@ -18,7 +18,7 @@ ghost use Rattle.standstill_laws.specs.Traffic.{AgentsSpeak, ControlMessagesAreF
 ghost use Rattle.standstill_laws.specs.Work.{SidesSendSo, RunWorkIsBounded, RunTurnsAreBounded};
 ghost use Rattle.standstill_laws.specs.Taking.{TakenIsBounded};
 ghost use Rattle.standstill_laws.specs.Acting.{EndsAreOfActs, ActsShowFew, TakenFromDomains};
-ghost use Rattle.standstill_laws.specs.Mixed.{ControlBytesAreBounded};
+ghost use Rattle.standstill_laws.specs.Mixed.{ControlBytesAreBounded, MixedWorkIsBounded, MixedRunsAreBounded};
 ghost use Rattle.standstill_laws.specs.Stretch.{ControlPagesRest, DataPagesRest, StretchesRest};
 ghost use Rattle.standstill_laws.specs.Moments.{MomentsRest, PagesGoOn};
 ghost use Rattle.standstill_laws.specs.Pace.{NoSessionRests};
@@ -352,8 +352,14 @@ pub fn run_work_is_bounded()
     ensures { RunWorkIsBounded }
 {}
 
-/// So if there aren't so many turns in a row that all did nothing, the turns of such a run after which a task goes on
-/// are fewer than that number times one more than this.
+/// With hostile domains all tasks of a run have done no more than that for the honest ones, and for each hostile one a number
+/// that its acts, its name, and its pages and the sizes of their rings give. On each page it was given an unused end.
+pub fn mixed_work_is_bounded()
+    ensures { MixedWorkIsBounded }
+{}
+
+/// So if there aren't so many turns in a row that all did nothing, the turns of a run between honest domains after which a
+/// task goes on are fewer than that number times one more than this.
 pub fn run_turns_are_bounded()
     ensures { RunTurnsAreBounded }
 {}
@@ -398,6 +404,12 @@ pub fn whole_turns_are_bounded()
 /// have done at most.
 pub fn whole_runs_are_bounded()
     ensures { WholeRunsAreBounded }
+{}
+
+/// In a run with hostile domains they are fewer than sixteen times that number and one, times one more than all its tasks
+/// have done at most.
+pub fn mixed_runs_are_bounded()
+    ensures { MixedRunsAreBounded }
 {}
 
 /// Pages that stand still exist, whatever their orders: one that was just opened, by what a drain of it loads.
