@@ -37,3 +37,4 @@ mod FairLaws
 mod StepLaws
 mod LeavingLaws
 mod HostileLaws
+mod GoneLaws

@@ -1,13 +1,19 @@
 -- Hostile domains at a standstill: each of their turns is one of their acts; sessions with those that have left end, and the broker drops them.
 -- Source: this project's own.
-use Rattle.std.specs.Prelude.{◌≡◌, ℕ, ◌<◌, true, List}
+use Rattle.std.specs.Prelude.{◌≡◌, ℕ, ◌<◌, true, false, List}
 use Rattle.std.specs.List.{AllByRecursion as Each}
 use Rattle.list_laws.specs.Lists.{SomeOf}
 use Rattle.ring_words.specs.declared.page.Role.{Role}
 use Rattle.ring_words.specs.declared.page.Role.TheVariants.{Client}
 use Rattle.vchan_protocol.specs.Answering.Loads.{loads_of}
-use Rattle.vchan_protocol.specs.History.Core.{Core, standing_of}
+use Rattle.vchan_protocol.specs.History.Core.{Core, side_of, standing_of}
+use Rattle.vchan_protocol.specs.History.Peer.{peer}
+use Rattle.vchan_protocol.specs.Always.Invariant.{MayCome}
 use Rattle.vchan_rule.specs.Seated.{view}
+use Rattle.task_duties.specs.declared.place.PagePlace.{PagePlace}
+use Rattle.task_duties.specs.Hostile.Given.{HostilePlan}
+use Rattle.task_duties.specs.Hostile.Stores.{role_at}
+use Rattle.task_duties.specs.Hostile.Trail.{IsTrail}
 use Rattle.channel_session.specs.declared.pause.Turned.TheVariants.{Quiet}
 use Rattle.broker_task.specs.Lines.{is_shut}
 use Rattle.broker_task.specs.Moving.{BrokerLine, HasMoved, IsQuiet, HasTurned}
@@ -47,3 +53,8 @@ IsHostile task = ⊥
 abbrev pub NoHostileTaskRests : Type 0
 NoHostileTaskRests = (many : ℕ) (first last : ℕ → Task) (turns : List TurnMade) → AreMade many first turns last → Each (λ made. DoesNothing made.before made.now) turns
     → (place : ℕ) → SomeOf (λ made. made.place ≡ place) turns → ¬ IsHostile (first place) × ¬ IsHostile (last place)
+
+-- a hostile domain that is done has left its pages: on each, the trail of its end is the one that it owes, and whatever the honest end across from it has done since, the gone word is set
+abbrev pub DoneHaveLeft : Type 0
+DoneHaveLeft = (core : Core) (who : Role) (plan : HostilePlan) (place : PagePlace) → MayCome core → (side_of core who).turned ≡ false → (side_of core (peer who)).turned ≡ true
+    → role_at plan.domain place ≡ peer who → IsTrail plan place (side_of core (peer who)).trail → PeerHasLeft core who

@@ -26,7 +26,7 @@ ghost use Rattle.standstill_laws.specs.Resting.{OutboxesAreEmpty};
 ghost use Rattle.standstill_laws.specs.Lasting.{NoRunLasts};
 ghost use Rattle.standstill_laws.specs.Stretches.{NoStretchLasts, StretchesAreShort, FairTurnsAreBounded, FairRunsAreBounded};
 ghost use Rattle.standstill_laws.specs.Leaving.{NoAgentLasts, LeavingIsShort, WholeTurnsAreBounded, WholeRunsAreBounded};
-ghost use Rattle.standstill_laws.specs.Hostile.{LeftAreDropped, NoHostileTaskRests, NoSessionRestsAlone};
+ghost use Rattle.standstill_laws.specs.Hostile.{DoneHaveLeft, LeftAreDropped, NoHostileTaskRests, NoSessionRestsAlone};
 ghost use Rattle.standstill_laws.specs.Order.{EndsComeInOrder, NoneIsEarly, AgentsHearInOrder};
 
 /// If both ends of a page between honest ends drained it and found nothing, and no index changed since, then
@@ -248,6 +248,12 @@ pub fn stretches_rest()
 /// each task that goes on has one, none of these is hostile.
 pub fn no_hostile_task_rests()
     ensures { NoHostileTaskRests }
+{}
+
+/// A hostile domain that is done has left each of its pages: where the trail of its end is the one that it owes, its gone
+/// word is set, whatever the honest end across from it has done since.
+pub fn done_have_left()
+    ensures { DoneHaveLeft }
 {}
 
 /// While the agents at both ends of an open session rest, nothing comes or goes on its page, and no end is opened,
