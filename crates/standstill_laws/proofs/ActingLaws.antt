@@ -36,9 +36,9 @@ use Rattle.task_duties.specs.Hostile.Trail.{words_of, Acts, AllActs, retiring, f
 use Rattle.hostile_task.specs.declared.progress.Progress.{Progress}
 use Rattle.hostile_task.specs.Plan.{HostileState}
 use Rattle.hostile_task.specs.UnderWay.{IsTrailSoFar, IsPart, ActsDone, words_at, most_turns}
-use Rattle.hostile_task.specs.Turns.{HasDone}
+use Rattle.hostile_task.specs.Turns.{HasDone, MayHaveTaken}
 use Rattle.standstill_laws.specs.Taking.{prod_of, shows_by, shows_of}
-use Rattle.standstill_laws.specs.Acting.{most_shows, all_shows, MayHaveTaken, EndsAreOfActs, TakenFromDomains, IsOfActs, WhenDone, SoFar}
+use Rattle.standstill_laws.specs.Acting.{most_shows, all_shows, EndsAreOfActs, TakenFromDomains, IsOfActs, WhenDone, SoFar}
 use Rattle.standstill_laws.proofs.TakingLaws.{taken_is_bounded_lem, prod_of_byte, shows_append}
 
 -- ---- events
@@ -230,9 +230,9 @@ acts_show_few_lem plan place trail ring (SoFar rest p few so_far) = omega (arith
 pub ends_are_of_acts_lem : EndsAreOfActs
 ends_are_of_acts_lem = (so_far, done)
   where
-    so_far : (s : HostileState) → HasDone s → MayHaveTaken s.plan.acts s.acts s.turns → Each (λ e. IsOfActs s.plan e.place e.view.trail) s.now
-    so_far s h few = each_weaker (λ e. IsTrailSoFar s.plan e.place h.progress e.view.trail) (λ e. IsOfActs s.plan e.place e.view.trail)
-        (λ e t. SoFar [] h.progress (λ act at. omega (arith, h.turns_are, few act (ap (λ (n : ℕ). slice_get s.plan.acts n) (sym h.acts_are) ∙ at)))
+    so_far : (s : HostileState) → HasDone s → Each (λ e. IsOfActs s.plan e.place e.view.trail) s.now
+    so_far s h = each_weaker (λ e. IsTrailSoFar s.plan e.place h.progress e.view.trail) (λ e. IsOfActs s.plan e.place e.view.trail)
+        (λ e t. SoFar [] h.progress (λ act at. omega (arith, h.turns_are, h.few act (ap (λ (n : ℕ). slice_get s.plan.acts n) (sym h.acts_are) ∙ at)))
         (subst (λ (es : List PastEvent). IsTrailSoFar s.plan e.place h.progress es) (sym (append-nil e.view.trail)) t))
         s.now h.trails
 

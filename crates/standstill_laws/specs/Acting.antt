@@ -1,6 +1,6 @@
 -- How often a hostile domain writes a producer index, by its acts, and so how much an honest end gets from it.
 -- Source: this project's own.
-use Rattle.std.specs.Prelude.{◌≡◌, ℕ, ◌+◌, ◌*◌, ◌≤◌, true, false, List, [], ◌∷◌, ◌++◌, Option, Some, length, slice_get}
+use Rattle.std.specs.Prelude.{◌≡◌, ℕ, ◌+◌, ◌*◌, ◌≤◌, true, false, List, [], ◌∷◌, ◌++◌, Option, Some, length}
 use Rattle.std.specs.List.{AllByRecursion as Each}
 use Rattle.ring_words.specs.Rings.{size}
 use Rattle.ring_words.specs.Page.{order_of}
@@ -20,8 +20,8 @@ use Rattle.task_duties.specs.Hostile.Given.{HostilePlan}
 use Rattle.task_duties.specs.Hostile.Trail.{words_of, IsTrail}
 use Rattle.hostile_task.specs.declared.progress.Progress.{Progress}
 use Rattle.hostile_task.specs.Plan.{HostileState}
-use Rattle.hostile_task.specs.UnderWay.{IsTrailSoFar, most_turns}
-use Rattle.hostile_task.specs.Turns.{HasDone}
+use Rattle.hostile_task.specs.UnderWay.{IsTrailSoFar}
+use Rattle.hostile_task.specs.Turns.{HasDone, MayHaveTaken}
 use Rattle.standstill_laws.specs.Taking.{shows_of}
 
 -- ---- acts
@@ -43,10 +43,6 @@ all_shows place (act ∷ acts) = most_shows place act + all_shows place acts
 
 -- ---- the ends of a hostile domain
 
--- so many of the acts are done, and the next one, if there is one, has taken no more turns than it may
-abbrev pub MayHaveTaken : List Act → ℕ → ℕ → Type 0
-MayHaveTaken acts done turns = (act : Act) → slice_get acts done ≡ Some act → turns ≤ most_turns act
-
 -- the events of an end are a beginning of those that its domain has made on it once it is done, or of those of a beginning of its acts
 pub data IsOfActs (plan : HostilePlan) (place : PagePlace) (trail : List PastEvent) : Type 0 where
   WhenDone : (rest : List PastEvent) → IsTrail plan place (trail ++ rest) → IsOfActs plan place trail
@@ -55,7 +51,7 @@ pub data IsOfActs (plan : HostilePlan) (place : PagePlace) (trail : List PastEve
 -- those of a task's ends are, after each turn and once it is done
 abbrev pub EndsAreOfActs : Type 0
 EndsAreOfActs =
-    ((s : HostileState) → HasDone s → MayHaveTaken s.plan.acts s.acts s.turns → Each (λ e. IsOfActs s.plan e.place e.view.trail) s.now)
+    ((s : HostileState) → HasDone s → Each (λ e. IsOfActs s.plan e.place e.view.trail) s.now)
     × ((plan : HostilePlan) (given ends : List EndAt) (domain : ℕ) → TaskOwes (Hostile plan given) (HostileDone domain ends) → Each (λ e. IsOfActs plan e.place e.view.trail) ends)
 
 -- ---- the laws
