@@ -73,5 +73,9 @@ bounded_behind many stretch first last resting (made ∷ turns) (OneIsMade tasks
         let kept = mul-le (work_of_all many first) stretch (work_of_all many (tasks_after first made)) stretch (omega (arith, work, made.works.0)) (omega arith) in
         omega (arith, long, next, kept)
 
+-- by what the tasks have done since the first of these turns
+pub turns_since : (many stretch : ℕ) (first last : ℕ → Task) (turns : List TurnMade) → 0 < stretch → AreMade many first turns last → NoStretchRests stretch turns → length turns + work_of_all many first * stretch < (work_of_all many last + 1) * stretch
+turns_since many stretch first last turns some made none = let all = bounded_behind many stretch first last [] turns made none tt some in omega (arith, all)
+
 pub turns_are_bounded_lem : TurnsAreBounded
-turns_are_bounded_lem many stretch first last turns some made none = let all = bounded_behind many stretch first last [] turns made none tt some in omega (arith, all)
+turns_are_bounded_lem many stretch first last turns some made none = let all = turns_since many stretch first last turns some made none in omega (arith, all)

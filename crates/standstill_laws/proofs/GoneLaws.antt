@@ -1,8 +1,8 @@
 -- A hostile domain that is done has left its pages: its gone word is 1 from its own store to it on, since an honest peer leaves that word alone.
-use Rattle.std.proofs.Common.{◌≡◌, ◌≢◌, ℕ, suc, zero, ◌<◌, ◌≤◌, ◌&&◌, ◌==◌, Bool, true, false, cond, List, [], ◌∷◌, ◌++◌, length, slice_index, slice_set, get_or-set_same, get_or-set_other, append_assoc, refl, sym, ap, ◌∙◌, subst, arith}
+use Rattle.std.proofs.Common.{◌≡◌, ◌≢◌, ℕ, ◌<◌, ◌≤◌, ◌&&◌, ◌==◌, Bool, true, false, cond, List, [], ◌∷◌, ◌++◌, length, slice_index, get_or-set_same, get_or-set_other, append_assoc, refl, sym, ap, ◌∙◌, subst, arith}
 use Rattle.std.proofs.lemmas.List.{set-get_or}
 use Rattle.std.proofs.lemmas.Bool.{false≢true}
-use Rattle.ring_words.specs.Page.{index_of, word_count}
+use Rattle.ring_words.specs.Page.{index_of}
 use Rattle.ring_words.specs.declared.order.Orders.{Orders}
 use Rattle.ring_words.specs.declared.page.Ring.{Ring}
 use Rattle.ring_words.specs.declared.page.Ring.TheVariants.{Left, Right}
@@ -13,7 +13,6 @@ use Rattle.ring_words.specs.declared.page.WordName.TheVariants.{CliLive, CliNoti
 use Rattle.vchan_protocol.specs.declared.op.Op.{Op}
 use Rattle.vchan_protocol.specs.declared.op.Op.TheVariants.{Load, LoadByte, Store, StoreByte, Or, And, Swap, Nothing}
 use Rattle.vchan_protocol.specs.declared.op.PastEvent.{PastEvent}
-use Rattle.vchan_protocol.specs.declared.call.Answer.{Answer}
 use Rattle.vchan_protocol.specs.declared.call.Answer.TheVariants.{Connected, BadOrders, Done}
 use Rattle.vchan_protocol.specs.declared.call.Call.{Call}
 use Rattle.vchan_protocol.specs.declared.call.Call.TheVariants.{Write, Send, Read, Recv, Drain, DataReady, BufferSpace, Connect, Close, TakeEvent, Retire, PeerGone}
@@ -21,7 +20,7 @@ use Rattle.vchan_protocol.specs.declared.call.EndState.{EndState}
 use Rattle.vchan_protocol.specs.declared.call.EndState.TheVariants.{Fresh, Open, Shut}
 use Rattle.vchan_protocol.specs.declared.side.Side.{Side}
 use Rattle.vchan_protocol.specs.Table.Plan.{Plan, answers, does, next_op, past, Leads, GoesOn, EachDoes}
-use Rattle.vchan_protocol.specs.Table.Ends.{Standing, low16, own_live, own_gone, peer_gone, own_pending, peer_pending, prod_word, cons_word, written_ring, read_ring}
+use Rattle.vchan_protocol.specs.Table.Ends.{Standing, low16, own_live, own_gone, peer_gone, peer_pending, prod_word, cons_word, written_ring, read_ring}
 use Rattle.vchan_protocol.specs.Table.Calls.{plan_of, connect, connect_right, close, retire, retire_shut}
 use Rattle.vchan_protocol.specs.Table.Apply.{words_after, value_taken}
 use Rattle.vchan_protocol.specs.History.Core.{Core, side_of, plan_left, op_next, begun_standing, event}
@@ -29,14 +28,13 @@ use Rattle.vchan_protocol.specs.History.TrailSummary.{summary}
 use Rattle.vchan_protocol.specs.History.Peer.{peer, held}
 use Rattle.vchan_protocol.specs.Always.Invariant.{MayCome, opens, begins_call, makes_event, is_turned, strays as makes_stray}
 use Rattle.vchan_protocol.specs.Honest.RingLaw.{CallLawful}
-use Rattle.vchan_protocol.specs.Hostile.Turned.{turned_side, turns, strayed}
-use Rattle.vchan_protocol.specs.Hostile.TurnedLaw.{TurnedLawful, turned_core}
+use Rattle.vchan_protocol.specs.Hostile.Turned.{turned_side}
+use Rattle.vchan_protocol.specs.Hostile.TurnedLaw.{TurnedLawful}
 use Rattle.vchan_protocol.proofs.Always.InvariantSteps.{each_has_invariant}
 use Rattle.vchan_protocol.proofs.Hostile.TurnedSteps.{event_grows, turned_turned_side, turned_side_honest, turned_side_given}
 use Rattle.vchan_protocol.proofs.Honest.EndSteps.{InLawful, in_lawful, owes_now}
 use Rattle.vchan_protocol.proofs.OneEnd.EachEvent.{KindsHave, each_event, each_answers, each_does}
 use Rattle.vchan_protocol.proofs.Table.Sound.{OwesSound, IsFlag}
-use Rattle.scenario_file.specs.declared.acts.Act.{Act}
 use Rattle.task_duties.specs.declared.place.PagePlace.{PagePlace}
 use Rattle.task_duties.specs.declared.place.PagePlace.TheVariants.{Control, Payload}
 use Rattle.task_duties.specs.Hostile.Given.{HostilePlan}
@@ -304,7 +302,7 @@ left core Client before may honest given is = one_left _ ((tells_all core Server
 
 -- what a hostile domain owes of a page ends with that
 ends_so : (plan : HostilePlan) (place : PagePlace) (trail : List PastEvent) → IsTrail plan place trail → (before : List PastEvent) × (trail ≡ before ++ retiring (role_at plan.domain place))
-ends_so plan (Control d) trail is = (loaded (prod_word (written_ring Server)) is.0 ∷ is.1, is.2.1)
+ends_so plan (Control d) trail is = (loaded (prod_word (written_ring Server)) is.0 ∷ is.1, is.3)
 ends_so plan (Payload from to port) trail is = (_, is)
 
 pub done_have_left_lem : DoneHaveLeft

@@ -1,5 +1,5 @@
 -- Once the broker is done its agents end soon, if each that isn't done has its turns.
-use Rattle.std.proofs.Common.{◌≡◌, ◌≢◌, ◌⊎◌, ℕ, ◌+◌, ◌-◌, ◌*◌, ◌<◌, ◌≤◌, Bool, true, false, List, [], ◌∷◌, ◌++◌, length, length-append, append_assoc, None, refl, sym, ap, ◌∙◌, subst, arith, inl, inr}
+use Rattle.std.proofs.Common.{◌≡◌, ◌≢◌, ◌⊎◌, ℕ, zero, suc, ◌+◌, ◌-◌, ◌*◌, ◌<◌, ◌≤◌, Bool, true, false, List, [], ◌∷◌, ◌++◌, length, None, refl, sym, ap, ◌∙◌, subst, arith, inl, inr}
 use Rattle.std.specs.List.{AllByRecursion as Each}
 use Rattle.std.proofs.lemmas.Nat.{mul-le}
 use Rattle.list_laws.proofs.Each.{each_front, each_back}
@@ -9,19 +9,20 @@ use Rattle.agent_slots.specs.Sessions.{session_at}
 use Rattle.agent_task.specs.State.{TellsSoFar}
 use Rattle.domain_task.specs.declared.task.Task.{Task}
 use Rattle.domain_task.specs.Working.{DoesNothing}
-use Rattle.standstill_laws.specs.Counting.{TurnMade, AreMade, work_of_all, NoStretchRests}
+use Rattle.standstill_laws.specs.Counting.{TurnMade, AreMade, work_of_all}
 use Rattle.standstill_laws.specs.Idle.{RunPage, RunPages, ChannelFound}
-use Rattle.standstill_laws.specs.Stretches.{turns_of}
-use Rattle.standstill_laws.specs.Leaving.{AgentStands, NoAgentLasts, LeavingIsShort, IsFairRun, WholeTurnsAreBounded, WholeRunsAreBounded}
+use Rattle.standstill_laws.specs.Stretches.{turns_of, IsFair}
+use Rattle.standstill_laws.specs.Leaving.{AgentStands, NoAgentLasts, LeavingIsShort, most_turns, WholeTurnsAreBounded, WholeRunsAreBounded}
+use Rattle.standstill_laws.specs.Work.{run_work}
 use Rattle.standstill_laws.specs.Mixed.{mixed_work, MixedRunsAreBounded}
 use Rattle.standstill_laws.proofs.PaceLaws.{peer_was_there}
 use Rattle.standstill_laws.proofs.StandstillLaws.{none_opened}
-use Rattle.standstill_laws.proofs.StretchesLaws.{made_both, agent_drain, session_shut}
+use Rattle.standstill_laws.proofs.StretchesLaws.{agent_drain, session_shut}
 use Rattle.standstill_laws.proofs.IdleLaws.{AgentTurn, agent_turn}
 use Rattle.standstill_laws.proofs.OwnLaws.{makes_one, turns_append}
 use Rattle.standstill_laws.proofs.FairLaws.{cut, rounds, made_split, stretches_are_short_lem}
-use Rattle.standstill_laws.proofs.CountingLaws.{turns_are_bounded_lem}
-use Rattle.standstill_laws.proofs.MixedLaws.{mixed_work_is_bounded_lem, run_turns_are_bounded_lem}
+use Rattle.standstill_laws.proofs.CountingLaws.{turns_since}
+use Rattle.standstill_laws.proofs.MixedLaws.{mixed_work_is_bounded_lem, run_work_is_bounded_lem}
 
 -- ---- one agent
 
@@ -76,63 +77,33 @@ leaving_is_short_lem hub round first last turns made agents fair stand before re
     let so = stand before s.front after n.made one.mid two.mid place all one.back placed eight idle in
     no_agent_rests so.0 many one.mid two.mid s.front place one.back so.1 eight
 
--- ---- two parts of a run
+-- ---- a whole run
 
--- two ways to cut one list in two
-record CutsBefore (a b p q : List TurnMade) : Type 0 where
-  between : List TurnMade
-  front : a ≡ p ++ between
-  back : q ≡ between ++ b
+-- a round that isn't empty has a turn of the broker's
+some_round : (hub : Domains) (honest : ℕ → Bool) (round : ℕ) (turns : List TurnMade) → IsFair hub honest round turns → 0 < round
+some_round hub honest zero turns fair = let none = fair [] [] turns refl refl 0 (inl refl) in omega (arith, none)
+some_round hub honest (suc round) turns fair = omega arith
 
-tail_of : (x : TurnMade) (xs ys : List TurnMade) (y : TurnMade) → x ∷ xs ≡ y ∷ ys → (x ≡ y) × (xs ≡ ys)
-tail_of x xs ys y same = (let e = same in cc, let e = same in cc)
-
-cuts_before : (a b p q : List TurnMade) → a ++ b ≡ p ++ q → length p ≤ length a → CutsBefore a b p q
-cuts_before a b [] q same less = record { between = a; front = refl; back = sym same }
-cuts_before [] b (y ∷ p) q same less = absurd (omega (arith, less))
-cuts_before (x ∷ a) b (y ∷ p) q same less =
-    let both = tail_of x (a ++ b) (p ++ q) y same in
-    let c = cuts_before a b p q both.1 (omega (arith, less)) in
-    record { between = c.between; front = ap (λ (l : List TurnMade). x ∷ l) c.front ∙ ap (λ (z : TurnMade). z ∷ p ++ c.between) both.0; back = c.back }
-
--- where neither part has so many turns in a row that all did nothing, the whole hasn't as many as both numbers together
-no_stretch_in_both : (m n : ℕ) (a b : List TurnMade) → NoStretchRests m a → NoStretchRests n b → NoStretchRests (m + n) (a ++ b)
-no_stretch_in_both m n a b none none' before resting after parts long nothing =
-    let did : TurnMade → Type 0 = λ (x : TurnMade). DoesNothing x.before x.now in
-    let s = cut (a ++ b) before resting after parts m n long in
-    let rests = subst (Each did) s.is nothing in
-    let in_front : length (before ++ s.front) ≤ length a → ⊥ = λ (less : length (before ++ s.front) ≤ length a).
-    let c = cuts_before a b (before ++ s.front) (s.back ++ after) s.at_front less in
-    none before s.front c.between c.front s.front_long (each_front did s.front s.back rests) in
-    let in_back : length a ≤ length (before ++ s.front) → ⊥ = λ (less : length a ≤ length (before ++ s.front)).
-    let c = cuts_before (before ++ s.front) (s.back ++ after) a b (sym s.at_front) less in
-    none' c.between s.back after (c.back ∙ sym (append_assoc c.between s.back after)) s.back_long (each_back did s.front s.back rests) in
-    omega (arith, in_front, in_back)
-
-whole_rests : (hub : Domains) (honest : ℕ → Bool) (round : ℕ) (first mid last : ℕ → Task) (during afterwards : List TurnMade) → IsFairRun hub honest round first mid last during afterwards → NoStretchRests (16 * round + 1) (during ++ afterwards)
-whole_rests hub honest round first mid last during afterwards run =
-    let one = stretches_are_short_lem hub honest round first mid during run.made run.fair run.stands in
-    let two = leaving_is_short_lem hub round mid last afterwards run.made_after run.agents run.fair_after run.stands_after in
-    let long : 8 * round + (8 * round + 1) ≡ 16 * round + 1 = omega arith in
-    subst (λ (n : ℕ). NoStretchRests n (during ++ afterwards)) long (no_stretch_in_both (8 * round) (8 * round + 1) during afterwards one two)
+more_turns : (round work most : ℕ) → work ≤ most → most_turns round work ≤ most_turns round most
+more_turns round work most few = let more = mul-le (work + 1) (8 * round + 1) (most + 1) (8 * round + 1) (omega (arith, few)) (omega arith) in omega (arith, more)
 
 pub whole_turns_are_bounded_lem : WholeTurnsAreBounded
 whole_turns_are_bounded_lem hub honest round first mid last during afterwards run =
-    let many = count_of hub + 1 in
-    let none = whole_rests hub honest round first mid last during afterwards run in
-    let few = turns_are_bounded_lem many (16 * round + 1) first last (during ++ afterwards) (omega arith) (made_both many first mid last during afterwards run.made run.made_after) none in
-    omega (arith, few, length-append during afterwards)
+    let many : ℕ = count_of hub + 1 in
+    let some = some_round hub honest round during run.fair in
+    let one = turns_since many (8 * round) first mid during (omega (arith, some)) run.made (stretches_are_short_lem hub honest round first mid during run.made run.fair run.stands) in
+    let two = turns_since many (8 * round + 1) mid last afterwards (omega arith) run.made_after (leaving_is_short_lem hub round mid last afterwards run.made_after run.agents run.fair_after run.stands_after) in
+    let all = mul-le (work_of_all many mid) (8 * round) (work_of_all many mid) (8 * round + 1) (omega arith) (omega arith) in
+    omega (arith, one, two, all)
 
 pub whole_runs_are_bounded_lem : WholeRunsAreBounded
 whole_runs_are_bounded_lem hub honest round first mid last during afterwards broker agents run all_honest =
-    let none = whole_rests hub honest round first mid last during afterwards run in
-    let made = made_both (count_of hub + 1) first mid last during afterwards run.made run.made_after in
-    let few = run_turns_are_bounded_lem hub (16 * round + 1) first last (during ++ afterwards) broker agents (omega arith) made none all_honest in
-    omega (arith, few, length-append during afterwards)
+    let few = whole_turns_are_bounded_lem hub honest round first mid last during afterwards run in
+    let most = more_turns round (work_of_all (count_of hub + 1) last) (run_work hub agents) (run_work_is_bounded_lem hub last broker agents all_honest) in
+    omega (arith, few, most)
 
 pub mixed_runs_are_bounded_lem : MixedRunsAreBounded
 mixed_runs_are_bounded_lem hub honest round first mid last during afterwards broker agents hostiles run mixed =
-    let work = mixed_work_is_bounded_lem hub honest last broker agents hostiles mixed in
     let few = whole_turns_are_bounded_lem hub honest round first mid last during afterwards run in
-    let more = mul-le (work_of_all (count_of hub + 1) last + 1) (16 * round + 1) (mixed_work hub honest agents hostiles + 1) (16 * round + 1) (omega (arith, work)) (omega arith) in
-    omega (arith, few, more)
+    let most = more_turns round (work_of_all (count_of hub + 1) last) (mixed_work hub honest agents hostiles) (mixed_work_is_bounded_lem hub honest last broker agents hostiles mixed) in
+    omega (arith, few, most)

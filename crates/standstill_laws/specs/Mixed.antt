@@ -38,7 +38,7 @@ use Rattle.standstill_laws.specs.Acting.{all_shows, IsOfActs}
 use Rattle.standstill_laws.specs.Counting.{TurnMade, work_of_all}
 use Rattle.standstill_laws.specs.Traffic.{sum_below, IsControlPage, call_bytes}
 use Rattle.standstill_laws.specs.Work.{DataPage, both_sessions, IsOfEnd, IsDataPage, all_below, call_work}
-use Rattle.standstill_laws.specs.Leaving.{IsFairRun}
+use Rattle.standstill_laws.specs.Leaving.{IsFairRun, most_turns}
 
 -- ---- a page of a hostile domain
 
@@ -176,4 +176,4 @@ MixedWorkIsBounded = (hub : Domains) (honest : ℕ → Bool) (tasks : ℕ → Ta
 -- and so many turns after which a task goes on does such a run make
 abbrev pub MixedRunsAreBounded : Type 0
 MixedRunsAreBounded = (hub : Domains) (honest : ℕ → Bool) (round : ℕ) (first mid last : ℕ → Task) (during afterwards : List TurnMade) (broker : BrokerState) (agents : ℕ → AgentState) (hostiles : ℕ → HostileState)
-    → IsFairRun hub honest round first mid last during afterwards → IsMixedRun hub honest last broker agents hostiles → length during + length afterwards < (mixed_work hub honest agents hostiles + 1) * (16 * round + 1)
+    → IsFairRun hub honest round first mid last during afterwards → IsMixedRun hub honest last broker agents hostiles → length during + length afterwards < most_turns round (mixed_work hub honest agents hostiles)

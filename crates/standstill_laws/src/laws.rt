@@ -292,8 +292,7 @@ pub fn taken_is_bounded()
     ensures { TakenIsBounded }
 {}
 
-/// What was done on the ends of a hostile domain are its acts, once it is done, and after each turn, if the act under way
-/// has taken no more turns than it may.
+/// What was done on the ends of a hostile domain are its acts, after each turn and once it is done.
 pub fn ends_are_of_acts()
     ensures { EndsAreOfActs }
 {}
@@ -400,20 +399,20 @@ pub fn leaving_is_short()
     ensures { LeavingIsShort }
 {}
 
-/// So the turns of a whole run after which a task goes on are fewer than sixteen times that number and one, times one more
-/// than what all its tasks have done in the end.
+/// So if that number is R, the turns of a whole run after which a task goes on are fewer than 8 R + 1, times one more than
+/// what all its tasks have done in the end, and 8 R more.
 pub fn whole_turns_are_bounded()
     ensures { WholeTurnsAreBounded }
 {}
 
-/// In a run between honest domains they are fewer than sixteen times that number and one, times one more than all its tasks
-/// have done at most.
+/// In a run between honest domains they are fewer than 8 R + 1, times one more than all its tasks have done at most, and
+/// 8 R more.
 pub fn whole_runs_are_bounded()
     ensures { WholeRunsAreBounded }
 {}
 
-/// In a run with hostile domains they are fewer than sixteen times that number and one, times one more than all its tasks
-/// have done at most.
+/// In a run with hostile domains they are so few by what all its tasks have done at most, the acts of the hostile ones among
+/// it.
 pub fn mixed_runs_are_bounded()
     ensures { MixedRunsAreBounded }
 {}
