@@ -292,7 +292,7 @@ got_little plan at core who over =
     let none = ap (λ (bytes : List ℕ). length bytes) over.unused in
     let same = ap (λ (orders : Orders). size (order_of orders ring)) over.orders in
     let both = one_of (orders_at plan at) ring in
-    let more = mul-le (1 + all_shows at plan.acts) (size (order_of core.orders ring)) (1 + all_shows at plan.acts) (size (orders_at plan at).left + size (orders_at plan at).right) (omega arith) (omega (arith, same, both)) in
+    let more = mul-le (all_shows at plan.acts) (size (order_of core.orders ring)) (all_shows at plan.acts) (size (orders_at plan at).left + size (orders_at plan at).right) (omega arith) (omega (arith, same, both)) in
     omega (arith, taken, none, more)
   where
     one_of : (orders : Orders) (ring : Ring) → size (order_of orders ring) ≤ size orders.left + size orders.right

@@ -54,9 +54,9 @@ pub record IsTurnedOver (plan : HostilePlan) (at : PagePlace) (core : Core) (who
   pub unused : (side_of core (peer who)).sent ≡ []
   pub orders : core.orders ≡ orders_at plan at
 
--- the honest end gets at most as many bytes as the rings of the page hold, and as many again for each time that the acts of the domain may store an index there
+-- the honest end gets at most as many bytes as the rings of the page hold, for each time that the acts of the domain may store an index there
 abbrev pub most_got : HostilePlan → PagePlace → ℕ
-most_got plan at = (1 + all_shows at plan.acts) * (size (orders_at plan at).left + size (orders_at plan at).right)
+most_got plan at = all_shows at plan.acts * (size (orders_at plan at).left + size (orders_at plan at).right)
 
 -- ---- control pages
 
