@@ -1,12 +1,12 @@
 -- Where each domain is done, all are settled.
-use Rattle.std.proofs.Common.{◌≡◌, ◌≢◌, ℕ, ◌+◌, ◌≤◌, zero, suc, List, [], ◌∷◌, ◌++◌, length, map, refl, ap, sym, ◌∙◌, subst, inr, arith, Some, None, Option}
-use Rattle.std.specs.Prelude.{Bool, true, false, ◌==◌, ◌&&◌, ◌||◌, nat_le, sum, filter, filter_map, if◌then◌else◌}
+use Rattle.std.proofs.Common.{◌≡◌, ◌≢◌, ℕ, ◌+◌, ◌≤◌, zero, suc, List, [], ◌∷◌, ◌++◌, length, map, refl, ap, sym, ◌∙◌, subst, inl, inr, arith, Some, None, Option}
+use Rattle.std.specs.Prelude.{IsPermutation, Bool, true, false, ◌==◌, ◌&&◌, ◌||◌, nat_le, sum, filter_map, if◌then◌else◌}
 use Rattle.std.specs.List.{list_any, cons_option, AllByRecursion as Each}
 use Rattle.std.proofs.lemmas.Bool.Decides.{nat_tests}
 use Rattle.std.proofs.lemmas.List.{length-map}
 use Rattle.std.proofs.lemmas.List.Sums.{sum_by-cons}
-use Rattle.std.proofs.lemmas.List.Sorted.{list_any-IsPermutation}
-use Rattle.std.proofs.lemmas.Bool.{and_parts, or_parts, or_right}
+use Rattle.std.proofs.lemmas.List.Sorted.{IsPermutation-sym, Contains-permutation}
+use Rattle.std.proofs.lemmas.Bool.{and_parts, or_parts}
 use Rattle.list_laws.proofs.Tests.{equal_self}
 use Rattle.qrexec_frame.specs.declared.message.Message.{Message}
 use Rattle.qrexec_frame.specs.declared.message.Message.TheVariants as message
@@ -21,18 +21,19 @@ use Rattle.call_broker.specs.Pair.{Ordered, has, by_port, belongs, decision}
 use Rattle.call_broker.specs.Journal.{IsDecidedOn, events, drops, is_dropped, port_in, accepted_ports, live}
 use Rattle.call_broker.specs.Laws.{AcceptsWell}
 use Rattle.call_broker.proofs.Decided.{accepts_well}
-use Rattle.call_broker.proofs.DroppedLaws.{any_append, dropped_more}
+use Rattle.call_broker.proofs.DroppedLaws.{dropped_more}
 use Rattle.call_broker.proofs.PortLaws.{port_names_pair_lem}
 use Rattle.task_duties.specs.Words.{exec_line}
 use Rattle.task_duties.specs.Places.{numbers}
 use Rattle.task_duties.specs.Agent.Saying.{Asking, asking_of}
-use Rattle.task_duties.specs.Broker.Outbox.{only_if, puts, outbox, event_of, is_from, read_from, is_answer, answered, live_calls}
+use Rattle.task_duties.specs.Broker.Outbox.{only_if, puts, outbox, event_of, is_from, is_answer, answered, live_calls}
+use Rattle.task_duties.proofs.Elements.{Has, Comes, each_at, has_from, contains_from, has_right, has_map, has_filter, has_filter_map, has_filter_map_back, has_flat_map_back}
 use Rattle.task_duties.proofs.LimitLaw.{asking_event}
 use Rattle.task_duties.proofs.JournalLaw.{asked_event, asked_in, asked_read, asked_said}
 use Rattle.agent_task.specs.Ends.{session_of_answer, session_asked, session_told, sessions_owed}
 use Rattle.standstill_laws.specs.Settling.{ended_port, ended_ports, EndsInOrder, IsDone, AllAreSettled}
 use Rattle.standstill_laws.proofs.AnswerLaws.{IsAnswered, by_answer, trigger_answered, count_more, count_same}
-use Rattle.standstill_laws.proofs.SettleLaws.{no_call_is_live_lem, no_call_of_dropped_is_live_lem}
+use Rattle.standstill_laws.proofs.SettleLaws.{is_in, in_has, no_call_is_live_lem, no_call_of_dropped_is_live_lem}
 
 -- ---- each trigger of a domain was answered
 
@@ -75,138 +76,14 @@ answered_asked hub d before (x ∷ journal) decided none up =
     by_event (Trigger from target service ident) is rest = by_sender from target service ident is (from == d) refl rest
     by_event _ is rest = none_more (ap (λ (e : Event). is_answer d e x.decision) is) (ap (asked_event d) is) rest
 
--- ---- the end of each session was read
+-- ---- the ports in a journal
 
--- a session, by the domain at its other end and its port
-abbrev is_session : ℕ → ℕ → ℕ × ℕ → Bool
-is_session d p s = s.0 == d && s.1 == p
+-- an entry that gives out this port
+pub has_accepted : (f t p : ℕ) (journal : List Entry) → has p (accepted_ports journal f t) ≡ true → Comes Entry journal (λ y. port_in f t y.event y.decision ≡ Some p)
+has_accepted f t p journal some = has_filter_map (λ (y : Entry). port_in f t y.event y.decision) journal p (is_in p (accepted_ports journal f t) some)
 
-abbrev is_its : ℕ → ℕ → Option (ℕ × ℕ) → Bool
-is_its d p None = false
-is_its d p (Some s) = is_session d p s
-
-named_any : (f : Message → Option (ℕ × ℕ)) (d p : ℕ) (ms : List Message) → list_any (λ m. is_its d p (f m)) ms ≡ true → list_any (is_session d p) (filter_map f ms) ≡ true
-named_any f d p [] some = some
-named_any f d p (m ∷ ms) some = by_name (f m) some (named_any f d p ms)
-  where
-    by_head : (s : ℕ × ℕ) (b : Bool) → is_session d p s ≡ b → (b || list_any (λ m. is_its d p (f m)) ms) ≡ true → (list_any (λ m. is_its d p (f m)) ms ≡ true → list_any (is_session d p) (filter_map f ms) ≡ true)
-        → (is_session d p s || list_any (is_session d p) (filter_map f ms)) ≡ true
-    by_head s true is h rest = ap (λ (b : Bool). b || list_any (is_session d p) (filter_map f ms)) is
-    by_head s false is h rest = or_right (is_session d p s) (list_any (is_session d p) (filter_map f ms)) (rest h)
-
-    by_name : (o : Option (ℕ × ℕ)) → (is_its d p o || list_any (λ m. is_its d p (f m)) ms) ≡ true → (list_any (λ m. is_its d p (f m)) ms ≡ true → list_any (is_session d p) (filter_map f ms) ≡ true)
-        → list_any (is_session d p) (cons_option o (filter_map f ms)) ≡ true
-    by_name None h rest = rest h
-    by_name (Some s) h rest = by_head s (is_session d p s) refl h rest
-
--- the target of a call that was let through was sent an Exec
-exec_here : (hub : Domains) (d to p q : ℕ) (e : Event) (decided : Decision) → port_in d to e decided ≡ Some q → (q == p) ≡ true → list_any (λ m. is_its d p (session_asked m)) (puts hub to e decided) ≡ true
-exec_here hub d to p q (Trigger from target service ident) (Accepted other port) is same = by_test (from == d && other == to) refl is
-  where
-    connect : Message
-    connect = message.Connect other port ident
-
-    exec : Message
-    exec = message.Exec from port (exec_line (cleaned_service service) (name_of hub from))
-
-    by_test : (b : Bool) → (from == d && other == to) ≡ b → (if b then Some port else None) ≡ Some q → list_any (λ m. is_its d p (session_asked m)) (puts hub to (Trigger from target service ident) (Accepted other port)) ≡ true
-    by_test false names h = cc
-    by_test true names h =
-        let port_is : port ≡ q = cc in
-        let parts = and_parts (from == d) (other == to) names in
-        let here : (to == other) ≡ true = grind (arith, nat_tests, parts.1) in
-        let its : (from == d && port == p) ≡ true = rw (parts.0, port_is) same in
-        let put : list_any (λ m. is_its d p (session_asked m)) (only_if (to == other) exec) ≡ true = rw (here, its) refl in
-        any_append (λ m. is_its d p (session_asked m)) (only_if (to == from) connect) (only_if (to == other) exec)
-        ∙ or_right (list_any (λ m. is_its d p (session_asked m)) (only_if (to == from) connect)) (list_any (λ m. is_its d p (session_asked m)) (only_if (to == other) exec)) put
-exec_here hub d to p q _ _ is same = cc
-
-exec_put : (hub : Domains) (d to p : ℕ) (journal : List Entry) → has p (accepted_ports journal d to) ≡ true → list_any (λ m. is_its d p (session_asked m)) (outbox hub journal to) ≡ true
-exec_put hub d to p [] some = some
-exec_put hub d to p (x ∷ journal) some = any_append (λ m. is_its d p (session_asked m)) (puts hub to x.event x.decision) (outbox hub journal to) ∙ by_found (port_in d to x.event x.decision) refl some (exec_put hub d to p journal)
-  where
-    first : Bool
-    first = list_any (λ m. is_its d p (session_asked m)) (puts hub to x.event x.decision)
-
-    rest : Bool
-    rest = list_any (λ m. is_its d p (session_asked m)) (outbox hub journal to)
-
-    by_head : (q : ℕ) → port_in d to x.event x.decision ≡ Some q → (b : Bool) → (q == p) ≡ b → (b || has p (accepted_ports journal d to)) ≡ true → (has p (accepted_ports journal d to) ≡ true → rest ≡ true) → (first || rest) ≡ true
-    by_head q is true same h more = ap (λ (b : Bool). b || rest) (exec_here hub d to p q x.event x.decision is same)
-    by_head q is false same h more = or_right first rest (more h)
-
-    by_found : (o : Option ℕ) → port_in d to x.event x.decision ≡ o → has p (cons_option o (accepted_ports journal d to)) ≡ true → (has p (accepted_ports journal d to) ≡ true → rest ≡ true) → (first || rest) ≡ true
-    by_found None is h more = or_right first rest (more h)
-    by_found (Some q) is h more = by_head q is (q == p) refl h more
-
--- the end of a session that a domain told is read
-abbrev is_end : ℕ → ℕ → ℕ → Event → Bool
-is_end t d p (Terminated from other port) = from == t && (other == d && port == p)
-is_end t d p event = false
-
-told_event : (t : ℕ) (m : Message) (s : ℕ × ℕ) → session_told m ≡ Some s → event_of t m ≡ Some (Terminated t s.0 s.1)
-told_event t (message.Terminated o p) s is = let same : (o, p) ≡ s = cc in ap (λ (x : ℕ × ℕ). Some (Terminated t x.0 x.1)) same
-told_event t _ s is = cc
-
-told_read : (t d p : ℕ) (sent : List Message) → list_any (is_session d p) (filter_map session_told sent) ≡ true → list_any (is_end t d p) (filter_map (event_of t) sent) ≡ true
-told_read t d p [] some = some
-told_read t d p (m ∷ sent) some = by_told (session_told m) refl some (told_read t d p sent)
-  where
-    rest : Bool
-    rest = list_any (is_end t d p) (filter_map (event_of t) sent)
-
-    skip : (o : Option Event) → rest ≡ true → list_any (is_end t d p) (cons_option o (filter_map (event_of t) sent)) ≡ true
-    skip None more = more
-    skip (Some e) more = or_right (is_end t d p e) rest more
-
-    by_head : (s : ℕ × ℕ) → session_told m ≡ Some s → (b : Bool) → is_session d p s ≡ b → (b || list_any (is_session d p) (filter_map session_told sent)) ≡ true → (list_any (is_session d p) (filter_map session_told sent) ≡ true → rest ≡ true)
-        → list_any (is_end t d p) (filter_map (event_of t) (m ∷ sent)) ≡ true
-    by_head s is true its h more =
-        let here : is_end t d p (Terminated t s.0 s.1) ≡ true = rw (equal_self t) its in
-        subst (λ (o : Option Event). list_any (is_end t d p) (cons_option o (filter_map (event_of t) sent)) ≡ true) (sym (told_event t m s is)) (ap (λ (b : Bool). b || rest) here)
-    by_head s is false its h more = skip (event_of t m) (more h)
-
-    by_told : (o : Option (ℕ × ℕ)) → session_told m ≡ o → list_any (is_session d p) (cons_option o (filter_map session_told sent)) ≡ true → (list_any (is_session d p) (filter_map session_told sent) ≡ true → rest ≡ true)
-        → list_any (is_end t d p) (filter_map (event_of t) (m ∷ sent)) ≡ true
-    by_told None is h more = skip (event_of t m) (more h)
-    by_told (Some s) is h more = by_head s is (is_session d p s) refl h more
-
-filtered_any : {A : Type 0} (p q : A → Bool) (xs : List A) → list_any p (filter q xs) ≡ true → list_any p xs ≡ true
-filtered_any p q [] some = some
-filtered_any p q (x ∷ xs) some = by_kept (q x) some (filtered_any p q xs)
-  where
-    by_head : (b : Bool) → p x ≡ b → (b || list_any p (filter q xs)) ≡ true → (list_any p (filter q xs) ≡ true → list_any p xs ≡ true) → (p x || list_any p xs) ≡ true
-    by_head true is h more = ap (λ (b : Bool). b || list_any p xs) is
-    by_head false is h more = or_right (p x) (list_any p xs) (more h)
-
-    by_kept : (b : Bool) → list_any p (if b then x ∷ filter q xs else filter q xs) ≡ true → (list_any p (filter q xs) ≡ true → list_any p xs ≡ true) → (p x || list_any p xs) ≡ true
-    by_kept true h more = by_head (p x) refl h more
-    by_kept false h more = or_right (p x) (list_any p xs) (more h)
-
-end_is : (t d p : ℕ) (e : Event) → is_end t d p e ≡ true → e ≡ Terminated t d p
-end_is t d p (Terminated from other port) is =
-    let one = and_parts (from == t) (other == d && port == p) is in
-    let two = and_parts (other == d) (port == p) one.1 in
-    let a : from ≡ t = grind (arith, nat_tests, one.0) in
-    let b : other ≡ d = grind (arith, nat_tests, two.0) in
-    let c : port ≡ p = grind (arith, nat_tests, two.1) in
-    ap (λ (x : ℕ). Terminated x other port) a ∙ (ap (λ (x : ℕ). Terminated t x port) b ∙ ap (λ (x : ℕ). Terminated t d x) c)
-end_is t d p _ is = cc
-
-read_ended : (hub : Domains) (d t p : ℕ) (journal : List Entry) → belongs hub (Ordered d t) (Terminated t d p) ≡ true → list_any (is_end t d p) (events journal) ≡ true → has p (ended_ports hub journal d t) ≡ true
-read_ended hub d t p [] own some = some
-read_ended hub d t p (x ∷ journal) own some = by_head (is_end t d p x.event) refl some (read_ended hub d t p journal own)
-  where
-    skip : (o : Option ℕ) → has p (ended_ports hub journal d t) ≡ true → has p (cons_option o (ended_ports hub journal d t)) ≡ true
-    skip None more = more
-    skip (Some q) more = or_right (q == p) (has p (ended_ports hub journal d t)) more
-
-    by_head : (b : Bool) → is_end t d p x.event ≡ b → (b || list_any (is_end t d p) (events journal)) ≡ true → (list_any (is_end t d p) (events journal) ≡ true → has p (ended_ports hub journal d t) ≡ true)
-        → has p (ended_ports hub (x ∷ journal) d t) ≡ true
-    by_head true is h more =
-        let told : ended_port hub d t x.event ≡ Some p = ap (ended_port hub d t) (end_is t d p x.event is) ∙ ap (λ (b : Bool). if b then Some p else None) own in
-        subst (λ (o : Option ℕ). has p (cons_option o (ended_ports hub journal d t)) ≡ true) (sym told) (ap (λ (b : Bool). b || has p (ended_ports hub journal d t)) (equal_self p))
-    by_head false is h more = skip (ended_port hub d t x.event) (more h)
+pub accepted_has : (f t p : ℕ) (journal : List Entry) (y : Entry) → Has journal y → port_in f t y.event y.decision ≡ Some p → has p (accepted_ports journal f t) ≡ true
+accepted_has f t p journal y there is = in_has p (accepted_ports journal f t) (has_filter_map_back (λ (x : Entry). port_in f t x.event x.decision) journal y p there is)
 
 -- ---- a port that was given out names its pair
 
@@ -215,31 +92,23 @@ pub record IsPortOfPair (f t port : ℕ) : Type 0 where
   pub call : ℕ
   pub port_is : port ≡ port_after f t call
 
-port_here : (hub : Domains) (f t p q : ℕ) (e : Event) (decided : Decision) → AcceptsWell hub e decided → port_in f t e decided ≡ Some q → (q == p) ≡ true → IsPortOfPair f t p
-port_here hub f t p q (Trigger from target service ident) (Accepted other port) well is same = by_test (from == f && other == t) refl is
+port_here : (hub : Domains) (f t p : ℕ) (e : Event) (decided : Decision) → AcceptsWell hub e decided → port_in f t e decided ≡ Some p → IsPortOfPair f t p
+port_here hub f t p (Trigger from target service ident) (Accepted other port) well is = by_test (from == f && other == t) refl is
   where
-    by_test : (b : Bool) → (from == f && other == t) ≡ b → (if b then Some port else None) ≡ Some q → IsPortOfPair f t p
+    by_test : (b : Bool) → (from == f && other == t) ≡ b → (if b then Some port else None) ≡ Some p → IsPortOfPair f t p
     by_test false names h = cc
     by_test true names h =
-        let port_is : port ≡ q = cc in
+        let port_is : port ≡ p = cc in
         let parts = and_parts (from == f) (other == t) names in
         let a : from ≡ f = grind (arith, nat_tests, parts.0) in
         let b : other ≡ t = grind (arith, nat_tests, parts.1) in
-        let c : q ≡ p = grind (arith, nat_tests, same) in
-        subst (λ (x : ℕ). IsPortOfPair f t x) (port_is ∙ c) (subst (λ (x : ℕ). IsPortOfPair f x port) b (subst (λ (x : ℕ). IsPortOfPair x other port) a (record { apart = well.apart; call = well.call; port_is = well.port_is })))
-port_here hub f t p q _ _ well is same = cc
+        subst (λ (x : ℕ). IsPortOfPair f t x) port_is (subst (λ (x : ℕ). IsPortOfPair f x port) b (subst (λ (x : ℕ). IsPortOfPair x other port) a (record { apart = well.apart; call = well.call; port_is = well.port_is })))
+port_here hub f t p _ _ well is = cc
 
 pub port_of : (hub : Domains) (f t p : ℕ) (journal : List Entry) → Each (λ x. AcceptsWell hub x.event x.decision) journal → has p (accepted_ports journal f t) ≡ true → IsPortOfPair f t p
-port_of hub f t p [] well some = cc
-port_of hub f t p (x ∷ journal) well some = by_found (port_in f t x.event x.decision) refl some (port_of hub f t p journal well.1)
-  where
-    by_head : (q : ℕ) → port_in f t x.event x.decision ≡ Some q → (b : Bool) → (q == p) ≡ b → (b || has p (accepted_ports journal f t)) ≡ true → (has p (accepted_ports journal f t) ≡ true → IsPortOfPair f t p) → IsPortOfPair f t p
-    by_head q is true same h more = port_here hub f t p q x.event x.decision well.0 is same
-    by_head q is false same h more = more h
-
-    by_found : (o : Option ℕ) → port_in f t x.event x.decision ≡ o → has p (cons_option o (accepted_ports journal f t)) ≡ true → (has p (accepted_ports journal f t) ≡ true → IsPortOfPair f t p) → IsPortOfPair f t p
-    by_found None is h more = more h
-    by_found (Some q) is h more = by_head q is (q == p) refl h more
+port_of hub f t p journal well some =
+    let x = has_accepted f t p journal some in
+    port_here hub f t p x.one.event x.one.decision (each_at (λ x. AcceptsWell hub x.event x.decision) journal x.one well x.there) x.is
 
 -- the end that the target tells is one of the pair
 own_end : (hub : Domains) (d t p : ℕ) → is_domain hub d ≡ true → IsPortOfPair d t p → belongs hub (Ordered d t) (Terminated t d p) ≡ true
@@ -250,17 +119,45 @@ own_end hub d t p there port =
 
 -- ---- the law
 
+-- the target of a call that was let through was sent an Exec
+exec_put : (hub : Domains) (d to p : ℕ) (e : Event) (decided : Decision) → port_in d to e decided ≡ Some p → (m : Message) × Has (puts hub to e decided) m × (session_asked m ≡ Some (d, p))
+exec_put hub d to p (Trigger from target service ident) (Accepted other port) is = by_test (from == d && other == to) refl is
+  where
+    exec : Message
+    exec = message.Exec from port (exec_line (cleaned_service service) (name_of hub from))
+
+    by_test : (b : Bool) → (from == d && other == to) ≡ b → (if b then Some port else None) ≡ Some p → (m : Message) × Has (puts hub to (Trigger from target service ident) (Accepted other port)) m × (session_asked m ≡ Some (d, p))
+    by_test false names h = cc
+    by_test true names h =
+        let port_is : port ≡ p = cc in
+        let parts = and_parts (from == d) (other == to) names in
+        let here : (to == other) ≡ true = grind (arith, nat_tests, parts.1) in
+        let caller : from ≡ d = grind (arith, nat_tests, parts.0) in
+        let put : Has (only_if (to == other) exec) exec = rw here (inl refl) in
+        (exec, has_right (only_if (to == from) (message.Connect other port ident)) (only_if (to == other) exec) exec put, λ i. Some (caller i, port_is i))
+exec_put hub d to p _ _ is = cc
+
+-- the end of a session that a domain told is read
+told_event : (t : ℕ) (m : Message) (s : ℕ × ℕ) → session_told m ≡ Some s → event_of t m ≡ Some (Terminated t s.0 s.1)
+told_event t (message.Terminated o p) s is = let same : (o, p) ≡ s = cc in ap (λ (x : ℕ × ℕ). Some (Terminated t x.0 x.1)) same
+told_event t _ s is = cc
+
+has_permuted : {A : Type 0} (xs ys : List A) (x : A) → IsPermutation xs ys → Has ys x → Has xs x
+has_permuted xs ys x permuted there = has_from xs x (Contains-permutation ys xs x (IsPermutation-sym xs ys permuted) (contains_from ys x there))
+
 ended_all : (hub : Domains) (awaited : List ℕ) (journal : List Entry) (said : ℕ → List Message) (d t p : ℕ) → Each (λ x. AcceptsWell hub x.event x.decision) journal → is_domain hub d ≡ true → IsDone hub awaited journal said t
     → has p (accepted_ports journal d t) ≡ true → has p (ended_ports hub journal d t) ≡ true
 ended_all hub awaited journal said d t p well there done some =
-    let heard : list_any (λ m. is_its d p (session_asked m)) done.heard ≡ true =
-    list_any-IsPermutation (λ m. is_its d p (session_asked m)) done.heard (outbox hub journal t) done.hears ∙ exec_put hub d t p journal some in
-    let owed : list_any (is_session d p) (sessions_owed done.asked done.heard) ≡ true =
-    any_append (is_session d p) (filter_map (λ a. session_of_answer a.answer) done.asked) (filter_map session_asked done.heard)
-    ∙ or_right (list_any (is_session d p) (filter_map (λ a. session_of_answer a.answer) done.asked)) (list_any (is_session d p) (filter_map session_asked done.heard)) (named_any session_asked d p done.heard heard) in
-    let told : list_any (is_session d p) (filter_map session_told done.sent) ≡ true = list_any-IsPermutation (is_session d p) (filter_map session_told done.sent) (sessions_owed done.asked done.heard) done.told ∙ owed in
-    let read : list_any (is_end t d p) (read_from journal t) ≡ true = ap (list_any (is_end t d p)) done.reads ∙ told_read t d p done.sent told in
-    read_ended hub d t p journal (own_end hub d t p there (port_of hub d t p journal well some)) (filtered_any (is_end t d p) (is_from t) (events journal) read)
+    let call = has_accepted d t p journal some in
+    let put = exec_put hub d t p call.one.event call.one.decision call.is in
+    let heard = has_permuted done.heard (outbox hub journal t) put.0 done.hears (has_flat_map_back (λ (x : Entry). puts hub t x.event x.decision) journal call.one put.0 call.there put.1) in
+    let owed = has_right (filter_map (λ a. session_of_answer a.answer) done.asked) (filter_map session_asked done.heard) (d, p) (has_filter_map_back session_asked done.heard put.0 (d, p) heard put.2) in
+    let told = has_filter_map session_told done.sent (d, p) (has_permuted (filter_map session_told done.sent) (sessions_owed done.asked done.heard) (d, p) done.told owed) in
+    let sent = has_filter_map_back (event_of t) done.sent told.one (Terminated t d p) told.there (told_event t told.one (d, p) told.is) in
+    let read = has_filter (is_from t) (events journal) (Terminated t d p) (subst (λ (l : List Event). Has l (Terminated t d p)) (sym done.reads) sent) in
+    let end = has_map (λ (x : Entry). x.event) journal (Terminated t d p) read.0 in
+    let own = own_end hub d t p there (port_of hub d t p journal well some) in
+    in_has p (ended_ports hub journal d t) (has_filter_map_back (λ (x : Entry). ended_port hub d t x.event) journal end.one p end.there (ap (ended_port hub d t) end.is ∙ ap (λ (b : Bool). if b then Some p else None) own))
 
 each_number : (n from count : ℕ) → 1 ≤ from → from + count ≤ n + 1 → Each (λ d. (1 ≤ d) × (d ≤ n)) (numbers from 1 count)
 each_number n from zero least most = tt

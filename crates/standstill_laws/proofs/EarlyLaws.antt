@@ -1,14 +1,13 @@
 -- No end of a session is reported before its call was asked for.
 use Rattle.std.proofs.Common.{◌≡◌, ◌≢◌, ℕ, ◌+◌, ◌<◌, ◌≤◌, zero, suc, List, [], ◌∷◌, ◌++◌, length, length-append, take, map, refl, ap, sym, ◌∙◌, subst, inl, inr, arith, append_assoc, Some, Option}
-use Rattle.std.specs.Prelude.{Bool, true, false, ◌==◌, ◌||◌, filter_map, slice_get, IsSomeAnd, IsPermutation}
-use Rattle.std.proofs.lemmas.Bool.Decides.{nat_tests}
+use Rattle.std.specs.Prelude.{true, filter_map, slice_get, IsSomeAnd, IsPermutation}
 use Rattle.std.proofs.lemmas.List.{append-nil}
 use Rattle.std.proofs.lemmas.List.Elements.{filter_map-append}
 use Rattle.std.specs.List.{AllByRecursion as Each}
 use Rattle.list_laws.specs.Lists.{SomeOf, IsPartOf, AreDifferent}
 use Rattle.list_laws.proofs.Places.{get_map, get_map_back, get_front}
 use Rattle.list_laws.proofs.Tests.{equal_self}
-use Rattle.list_laws.proofs.Each.{each_front}
+use Rattle.list_laws.proofs.Each.{some_get, each_front}
 use Rattle.qrexec_frame.specs.declared.message.Message.{Message}
 use Rattle.qrexec_frame.specs.declared.message.Message.TheVariants as message
 use Rattle.call_broker.specs.declared.event.Event.{Event}
@@ -26,7 +25,7 @@ use Rattle.task_duties.specs.Words.{ident_of}
 use Rattle.task_duties.specs.Agent.Answers.{Asked}
 use Rattle.task_duties.specs.Agent.Saying.{Asking, asking, asking_of}
 use Rattle.task_duties.specs.Broker.Outbox.{outbox}
-use Rattle.task_duties.proofs.Elements.{Has, Comes, each_at, each_of, has_left, has_part, has_filter_map, has_filter_map_back, one_of}
+use Rattle.task_duties.proofs.Elements.{Has, Comes, each_at, each_of, has_left, has_part, has_filter_map_back, one_of}
 use Rattle.task_duties.proofs.JournalLaw.{asked_event, asked_in}
 use Rattle.task_duties.proofs.OutboxLaw.{IsConnect, put_by_entry, outbox_once, part_once, apart_from}
 use Rattle.agent_queue.specs.Queue.{asked_by}
@@ -34,8 +33,8 @@ use Rattle.agent_control.specs.declared.control.AgentControl.{AgentControl}
 use Rattle.agent_task.specs.State.{IsChannelOf, answers_so_far}
 use Rattle.standstill_laws.specs.Asking.{heard_so_far}
 use Rattle.standstill_laws.specs.Order.{IsSentAfter, NoneIsEarly, AgentsHearInOrder}
-use Rattle.standstill_laws.proofs.DoneLaws.{IsPortOfPair, port_of}
-use Rattle.standstill_laws.proofs.OrderLaws.{WasTold, was_told, IsLetThrough, let_through, differ_from, accepted_has, same_ordered}
+use Rattle.standstill_laws.proofs.DoneLaws.{IsPortOfPair, port_of, has_accepted, accepted_has}
+use Rattle.standstill_laws.proofs.OrderLaws.{WasTold, was_told, IsLetThrough, let_through, differ_from, same_ordered}
 
 -- ---- places
 
@@ -66,9 +65,7 @@ get_taken (suc n) (y ∷ xs) (suc i) x there = get_taken n xs i x there
 get_taken _ _ i x there = cc
 
 has_get : {A : Type 0} (xs : List A) (i : ℕ) (x : A) → slice_get xs i ≡ Some x → Has xs x
-has_get [] i x there = cc
-has_get (y ∷ xs) zero x there = inl (let same : y ≡ x = cc in same)
-has_get (y ∷ xs) (suc i) x there = inr (has_get xs i x there)
+has_get {A} xs i x there = some_get (λ (y : A). y ≡ x) xs i x there refl
 
 same_place : (xs : List (List ℕ)) (i j : ℕ) (w : List ℕ) → AreDifferent xs → slice_get xs i ≡ Some w → slice_get xs j ≡ Some w → i ≡ j
 same_place (x ∷ xs) zero (suc j) w differ here there =
@@ -81,18 +78,6 @@ same_place (x ∷ xs) (suc i) (suc j) w differ here there = ap suc (same_place x
 same_place _ _ _ w differ here there = cc
 
 -- ---- entries
-
--- an entry that gives out this port
-has_accepted : (f t p : ℕ) (journal : List Entry) → has p (accepted_ports journal f t) ≡ true → Comes Entry journal (λ y. port_in f t y.event y.decision ≡ Some p)
-has_accepted f t p journal some = has_filter_map (λ (y : Entry). port_in f t y.event y.decision) journal p (is_in (accepted_ports journal f t) some)
-  where
-    is_in : (xs : List ℕ) → has p xs ≡ true → Has xs p
-    is_in [] some = cc
-    is_in (x ∷ xs) some = by_head (x == p) refl some (is_in xs)
-      where
-        by_head : (b : Bool) → (x == p) ≡ b → (b || has p xs) ≡ true → (has p xs ≡ true → Has xs p) → Has (x ∷ xs) p
-        by_head true is h rest = inl (grind (arith, nat_tests, is))
-        by_head false is h rest = inr (rest h)
 
 -- no port is one of both directions
 one_way : (hub : Domains) (one two : List Entry) (d t port : ℕ) → Each (λ x. AcceptsWell hub x.event x.decision) one → Each (λ x. AcceptsWell hub x.event x.decision) two → has port (accepted_ports one d t) ≡ true

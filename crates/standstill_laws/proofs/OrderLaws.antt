@@ -1,11 +1,10 @@
 -- Ends of sessions are read after their calls were let through.
 use Rattle.std.proofs.Common.{◌≡◌, ◌≢◌, ℕ, ◌<◌, suc, List, [], ◌∷◌, ◌++◌, length, map, refl, ap, sym, ◌∙◌, subst, inl, inr, arith, append_assoc, Some, None, Option}
 use Rattle.std.specs.Prelude.{◌⊎◌, Bool, true, false, ◌==◌, ◌&&◌, ◌||◌, slice_index_or, filter_map, if◌then◌else◌}
-use Rattle.std.specs.List.{list_any, cons_option, AllByRecursion as Each}
-use Rattle.std.proofs.lemmas.Bool.Decides.{nat_tests}
+use Rattle.std.specs.List.{list_any, AllByRecursion as Each}
 use Rattle.std.proofs.lemmas.Slice.Eq.{bytes_eq-Decides}
 use Rattle.std.proofs.lemmas.List.Elements.{filter_map-append}
-use Rattle.std.proofs.lemmas.Bool.{and_parts, or_right}
+use Rattle.std.proofs.lemmas.Bool.{and_parts, false_from_ne_true}
 use Rattle.list_laws.specs.Lists.{AreDifferent}
 use Rattle.list_laws.proofs.Tests.{equal_self}
 use Rattle.list_laws.proofs.Each.{each_front, each_back}
@@ -30,13 +29,13 @@ use Rattle.task_duties.specs.Words.{ident_of, service_of_line}
 use Rattle.task_duties.specs.Agent.Given.{AgentPlan}
 use Rattle.task_duties.specs.Agent.Answers.{Answer, Waits, IsRefused, At, Asked, Answers, waits_as, answered, serves, takes, takes_all, answers, nothing_heard}
 use Rattle.task_duties.specs.Broker.Outbox.{outbox}
-use Rattle.task_duties.proofs.Elements.{Has, each_at, has_append, has_filter_map}
+use Rattle.task_duties.proofs.Elements.{Has, each_at, has_append, has_right, has_filter_map}
 use Rattle.task_duties.proofs.OutboxLaw.{IsConnect, IsExec, put_by_entry}
 use Rattle.agent_task.specs.Ends.{session_of_answer, session_asked}
 use Rattle.standstill_laws.specs.Settling.{ended_port, EndsInOrder}
 use Rattle.standstill_laws.specs.Order.{IsReportOf, HasGrown, IsEmpty, HasMore, EndsComeInOrder}
-use Rattle.standstill_laws.proofs.SettleLaws.{named_pair, sender_of_pair}
-use Rattle.standstill_laws.proofs.DoneLaws.{IsPortOfPair, port_of}
+use Rattle.standstill_laws.proofs.SettleLaws.{is_in, named_pair, sender_of_pair}
+use Rattle.standstill_laws.proofs.DoneLaws.{IsPortOfPair, port_of, accepted_has}
 
 -- ---- a call that was let through was told so
 
@@ -92,17 +91,6 @@ pub was_told : (plan : AgentPlan) (heard : List Message) → Each (WasTold heard
 was_told plan heard = told_all heard plan.domain (nothing_heard plan) heard (λ m h. h) (none_told heard plan.calls)
 
 -- ---- what is owed was let through
-
--- some entry of a journal lets a call of the pair through at this port
-pub accepted_has : (f t p : ℕ) (journal : List Entry) (y : Entry) → Has journal y → port_in f t y.event y.decision ≡ Some p → has p (accepted_ports journal f t) ≡ true
-accepted_has f t p [] y there is = absurd there
-accepted_has f t p (x ∷ journal) y (inl here) is =
-    subst (λ (o : Option ℕ). has p (cons_option o (accepted_ports journal f t)) ≡ true) (sym (ap (λ (z : Entry). port_in f t z.event z.decision) here ∙ is)) (ap (λ (b : Bool). b || has p (accepted_ports journal f t)) (equal_self p))
-accepted_has f t p (x ∷ journal) y (inr there) is = skip (port_in f t x.event x.decision) (accepted_has f t p journal y there is)
-  where
-    skip : (o : Option ℕ) → has p (accepted_ports journal f t) ≡ true → has p (cons_option o (accepted_ports journal f t)) ≡ true
-    skip None more = more
-    skip (Some q) more = or_right (q == p) (has p (accepted_ports journal f t)) more
 
 own_port_in : (f t p : ℕ) (target service ident : List ℕ) → port_in f t (Trigger f target service ident) (Accepted t p) ≡ Some p
 own_port_in f t p target service ident = rw (equal_self f, equal_self t) refl
@@ -186,19 +174,13 @@ pub differ_from : (xs : List ℕ) → ((i j : ℕ) → i < j → j < length xs �
 differ_from [] apart = tt
 differ_from (x ∷ xs) apart = (each_index (λ y. x ≢ y) xs (λ k less. apart 0 (suc k) (omega arith) (omega (arith, less))), differ_from xs (λ i j before less. apart (suc i) (suc j) (omega (arith, before)) (omega (arith, less))))
 
-none_again : (p x : ℕ) (ys : List ℕ) → x ≡ p → Each (λ y. x ≢ y) ys → has p ys ≡ false
-none_again p x [] same each = refl
-none_again p x (y ∷ ys) same each =
-    let other : (y == p) ≡ false = let apart = each.0 in grind (arith, nat_tests, same) in
-    rw other (none_again p x ys same each.1)
+not_both : (p : ℕ) (xs ys : List ℕ) → AreDifferent (xs ++ ys) → Has xs p → ¬ Has ys p
+not_both p [] ys differ mine its = absurd mine
+not_both p (x ∷ xs) ys differ (inl here) its = each_at (λ y. x ≢ y) ys p (each_back (λ y. x ≢ y) xs ys differ.0) its here
+not_both p (x ∷ xs) ys differ (inr there) its = not_both p xs ys differ.1 there its
 
 only_first : (p : ℕ) (xs ys : List ℕ) → AreDifferent (xs ++ ys) → has p xs ≡ true → has p ys ≡ false
-only_first p [] ys differ some = cc
-only_first p (x ∷ xs) ys differ some = by_head (x == p) refl some (only_first p xs ys differ.1)
-  where
-    by_head : (b : Bool) → (x == p) ≡ b → (b || has p xs) ≡ true → (has p xs ≡ true → has p ys ≡ false) → has p ys ≡ false
-    by_head true is h rest = none_again p x ys (grind (arith, nat_tests, is)) (each_back (λ y. x ≢ y) xs ys differ.0)
-    by_head false is h rest = rest h
+only_first p xs ys differ some = false_from_ne_true (has p ys) (λ again. not_both p xs ys differ (is_in p xs some) (is_in p ys again))
 
 -- ---- the law
 
@@ -212,12 +194,8 @@ record IsBefore (before a : List Entry) (x : Entry) : Type 0 where
   pub rest : List Entry
   pub is : before ≡ a ++ x ∷ rest
 
-has_after : (a : List Entry) (x : Entry) (b : List Entry) → Has (a ++ x ∷ b) x
-has_after [] x b = inl refl
-has_after (y ∷ a) x b = inr (has_after a x b)
-
 where_in : (before new a : List Entry) (x : Entry) (b : List Entry) → before ++ new ≡ a ++ x ∷ b → IsBefore before a x ⊎ IsLater before a x new
-where_in [] new a x b is = inr (record { between = a; is = refl; there = subst (λ (l : List Entry). Has l x) (sym is) (has_after a x b) })
+where_in [] new a x b is = inr (record { between = a; is = refl; there = subst (λ (l : List Entry). Has l x) (sym is) (has_right a (x ∷ b) x (inl refl)) })
 where_in (y ∷ before) new [] x b is =
     let same : y ≡ x = cc in
     inl (record { rest = before; is = ap (λ (z : Entry). z ∷ before) same })
@@ -237,13 +215,9 @@ record WasReported (hub : Domains) (a : List Entry) (d other port : ℕ) : Type 
   pub is : a ≡ before ++ between
   pub report : IsReportOf hub before d other port
 
-none_there : (a : List Entry) (x : Entry) (b : List Entry) → [] ≡ a ++ x ∷ b → ⊥
-none_there [] x b is = cc
-none_there (y ∷ a) x b is = cc
-
 was_reported : (hub : Domains) (honest : ℕ → Bool) (journal a : List Entry) (x : Entry) (b : List Entry) (d other port : ℕ) → HasGrown hub honest journal → honest d ≡ true → journal ≡ a ++ x ∷ b → x.event ≡ Terminated d other port
     → WasReported hub a d other port
-was_reported hub honest journal a x b d other port IsEmpty fair is event = absurd (none_there a x b is)
+was_reported hub honest journal a x b d other port IsEmpty fair is event = absurd (subst (λ (l : List Entry). Has l x) (sym is) (has_right a (x ∷ b) x (inl refl)))
 was_reported hub honest journal a x b d other port (HasMore before new grown read) fair is event = by_part (where_in before new a x b is) (λ rest same. was_reported hub honest before a x rest d other port grown fair same event)
   where
     by_part : IsBefore before a x ⊎ IsLater before a x new → ((rest : List Entry) → before ≡ a ++ x ∷ rest → WasReported hub a d other port) → WasReported hub a d other port

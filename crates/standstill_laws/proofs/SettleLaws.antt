@@ -2,7 +2,7 @@
 use Rattle.std.proofs.Common.{◌≡◌, ℕ, ◌<◌, ◌≤◌, List, [], ◌∷◌, ◌++◌, refl, ap, sym, ◌∙◌, subst, inl, inr, append_assoc, Some, None, Option, arith}
 use Rattle.std.specs.Prelude.{◌⊎◌, Bool, true, false, ◌==◌, ◌&&◌, ◌||◌, not, min, max, filter, if◌then◌else◌}
 use Rattle.std.specs.List.{list_any, cons_option}
-use Rattle.std.proofs.lemmas.Bool.{cases_lt, or_right, or_parts}
+use Rattle.std.proofs.lemmas.Bool.{cases_lt, or_right, or_parts, false_from_ne_true}
 use Rattle.std.proofs.lemmas.Bool.Decides.{nat_tests}
 use Rattle.std.proofs.lemmas.List.{append-nil}
 use Rattle.call_broker.specs.declared.event.Event.{Event}
@@ -19,34 +19,42 @@ use Rattle.call_broker.proofs.OpenLaws.{taken_view, taken_pair, terminated_takes
 use Rattle.call_broker.proofs.PortLaws.{state_after_lem}
 use Rattle.call_broker.proofs.StateLaws.{still_up, dropped_events, none_before}
 use Rattle.call_broker.proofs.TabledLaws.{own_pair}
+use Rattle.list_laws.proofs.Tests.{equal_self}
+use Rattle.task_duties.proofs.Elements.{Has, has_filter}
 use Rattle.standstill_laws.specs.Settling.{ended_port, ended_ports, EndsInOrder, NoCallIsLive, NoCallOfDroppedIsLive}
 
 -- ---- numbers in lists
 
-still_none : (p q : ℕ) (xs : List ℕ) → has p xs ≡ false → has p (filter (λ x. not (x == q)) xs) ≡ false
-still_none p q [] none = refl
-still_none p q (x ∷ xs) none = by_head (x == p) refl none (x == q) (still_none p q xs)
+pub is_in : (p : ℕ) (xs : List ℕ) → has p xs ≡ true → Has xs p
+is_in p [] some = cc
+is_in p (x ∷ xs) some = by_head (x == p) refl some (is_in p xs)
   where
-    by_head : (b : Bool) → (x == p) ≡ b → (b || has p xs) ≡ false → (c : Bool) → (has p xs ≡ false → has p (filter (λ y. not (y == q)) xs) ≡ false)
-        → has p (if not c then x ∷ filter (λ y. not (y == q)) xs else filter (λ y. not (y == q)) xs) ≡ false
-    by_head true is none c rest = cc
-    by_head false is none true rest = rest none
-    by_head false is none false rest = rw is (rest none)
+    by_head : (b : Bool) → (x == p) ≡ b → (b || has p xs) ≡ true → (has p xs ≡ true → Has xs p) → Has (x ∷ xs) p
+    by_head true is h rest = inl (grind (arith, nat_tests, is))
+    by_head false is h rest = inr (rest h)
+
+pub in_has : (p : ℕ) (xs : List ℕ) → Has xs p → has p xs ≡ true
+in_has p [] there = absurd there
+in_has p (x ∷ xs) (inl here) = ap (λ (b : Bool). b || has p xs) (ap (λ (q : ℕ). q == p) here ∙ equal_self p)
+in_has p (x ∷ xs) (inr there) = or_right (x == p) (has p xs) (in_has p xs there)
+
+still_none : (p q : ℕ) (xs : List ℕ) → has p xs ≡ false → has p (filter (λ x. not (x == q)) xs) ≡ false
+still_none p q xs none =
+    false_from_ne_true (has p (filter (λ x. not (x == q)) xs)) (λ some.
+    let kept = has_filter (λ x. not (x == q)) xs p (is_in p (filter (λ x. not (x == q)) xs) some) in
+    let bad : true ≡ false = sym (in_has p xs kept.0) ∙ none in
+    cc)
 
 left_out : (p : ℕ) (xs : List ℕ) → has p (filter (λ x. not (x == p)) xs) ≡ false
-left_out p [] = refl
-left_out p (x ∷ xs) = by_head (x == p) refl (left_out p xs)
-  where
-    by_head : (b : Bool) → (x == p) ≡ b → has p (filter (λ y. not (y == p)) xs) ≡ false → has p (if not b then x ∷ filter (λ y. not (y == p)) xs else filter (λ y. not (y == p)) xs) ≡ false
-    by_head true is rest = rest
-    by_head false is rest = rw is rest
+left_out p xs =
+    false_from_ne_true (has p (filter (λ x. not (x == p)) xs)) (λ some.
+    let kept = has_filter (λ x. not (x == p)) xs p (is_in p (filter (λ x. not (x == p)) xs) some) in
+    let bad : true ≡ false = sym kept.1 ∙ ap not (equal_self p) in
+    cc)
 
 none_has : (xs : List ℕ) → ((p : ℕ) → has p xs ≡ false) → xs ≡ []
 none_has [] none = refl
-none_has (x ∷ xs) none = absurd (first (none x))
-  where
-    first : (x == x || has x xs) ≡ false → ⊥
-    first is = let self : (x == x) ≡ true = grind (arith, nat_tests) in let bad : (true || has x xs) ≡ false = ap (λ (b : Bool). b || has x xs) (sym self) ∙ is in cc
+none_has (x ∷ xs) none = let bad : true ≡ false = sym (in_has x (x ∷ xs) (inl refl)) ∙ none x in cc
 
 -- ---- one event
 
