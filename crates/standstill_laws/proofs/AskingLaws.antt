@@ -5,7 +5,7 @@ use Rattle.std.specs.List.{count_by, cons_option, AllByRecursion as Each}
 use Rattle.std.proofs.lemmas.List.{append-nil, length-map, take_all}
 use Rattle.std.proofs.lemmas.Option.{slice_get_cases, slice_get_within}
 use Rattle.std.proofs.lemmas.Slice.Eq.{bytes_eq-Decides}
-use Rattle.std.proofs.lemmas.Bool.{and_parts}
+use Rattle.std.proofs.lemmas.Bool.{and_parts, false_from_ne_true}
 use Rattle.list_laws.specs.Lists.{SomeOf}
 use Rattle.list_laws.proofs.Places.{get_map, get_map_back}
 use Rattle.list_laws.proofs.Each.{each_get}
@@ -80,7 +80,11 @@ some_taken P (y ∷ xs) (suc n) (suc place) x there less p = inr (some_taken P x
 
 -- the call at a place that was asked for doesn't wait
 not_waiting : (task : AgentState) (said : List Message) (c : AgentControl) → IsChannelOf task said c → HearsInOrder task said → (place : ℕ) (q : Queued) → slice_get c.queue.calls place ≡ Some q → place < c.queue.next → waits q.answer ≡ false
-not_waiting task said c channel hears place q there less = by_waits (waits q.answer) refl
+not_waiting task said c channel hears place q there less =
+    false_from_ne_true (waits q.answer) (λ is.
+    let here : (bytes_eq w w && waits q.answer) ≡ true = rw (same_bytes w, is) refl in
+    let bad : true ≡ false = sym here ∙ still in
+    cc)
   where
     w : List ℕ
     w = ident_of q.call.number
@@ -104,12 +108,6 @@ not_waiting task said c channel hears place q there less = by_waits (waits q.ans
 
     still : waits_as w (asked_as q) ≡ false
     still = each_get (λ (a : Asked). waits_as w a ≡ false) (answers_so_far task).asked place (asked_as q) idle asked_there
-
-    by_waits : (b : Bool) → waits q.answer ≡ b → b ≡ false
-    by_waits true is =
-        let here : (bytes_eq w w && waits q.answer) ≡ true = rw (same_bytes w, is) refl in
-        let bad : true ≡ false = sym here ∙ still in cc
-    by_waits false is = refl
 
 -- ---- the queue holds no call back
 

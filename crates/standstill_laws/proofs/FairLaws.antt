@@ -8,7 +8,8 @@ use Rattle.call_broker.specs.Domains.{Domains, count_of}
 use Rattle.domain_task.specs.declared.task.Task.{Task}
 use Rattle.domain_task.specs.Working.{DoesNothing}
 use Rattle.standstill_laws.specs.Counting.{TurnMade, tasks_after, AreMade, NoneIsMade, OneIsMade}
-use Rattle.standstill_laws.specs.Stretches.{turns_of, IsHonestPlace, IsFair, StretchesAreShort, FairTurnsAreBounded, FairRunsAreBounded}
+use Rattle.standstill_laws.specs.Idle.{RunPages}
+use Rattle.standstill_laws.specs.Stretches.{turns_of, IsHonestAgent, StretchStands, IsHonestPlace, IsFair, StandThroughout, StretchesAreShort, FairTurnsAreBounded, FairRunsAreBounded}
 use Rattle.standstill_laws.proofs.OwnLaws.{turns_append, turns_same}
 use Rattle.standstill_laws.proofs.CountingLaws.{turns_are_bounded_lem}
 use Rattle.standstill_laws.proofs.MixedLaws.{run_turns_are_bounded_lem}
@@ -91,31 +92,59 @@ fair_rounds : (hub : Domains) (honest : ℕ → Bool) (round : ℕ) (turns : Lis
 fair_rounds hub honest round turns fair place mine k before row after parts long =
     rounds place round turns (λ behind. Unit {0}) (λ front behind holds. tt) (λ ahead row behind parts long holds. fair ahead row behind parts long place mine) k before row after parts tt long
 
+-- turns in a row that did nothing, as many as make up eight rounds
+module _ (hub : Domains) (honest : ℕ → Bool) (round : ℕ) (first last : ℕ → Task) (turns : List TurnMade) (made : AreMade (count_of hub + 1) first turns last) (fair : IsFair hub honest round turns) (stand : StandThroughout hub honest turns)
+    (before resting after : List TurnMade) (parts : turns ≡ before ++ resting ++ after) (long : length resting ≡ 8 * round) (nothing : Each (λ (m : TurnMade). DoesNothing m.before m.now) resting) where
+  -- the first turn of the broker in the last round
+  late : Cut turns before resting after (7 * round) round
+  late = cut turns before resting after parts (7 * round) round (omega (arith, long))
+
+  next : FirstTurn 0 late.back
+  next = first_turn 0 late.back (fair (before ++ late.front) late.back after late.at_back late.back_long 0 (inl refl))
+
+  abbrev row : List TurnMade
+  row = late.front ++ next.before
+
+  all : resting ≡ row ++ next.made ∷ next.after
+  all = late.is ∙ ap (λ (l : List TurnMade). late.front ++ l) next.is ∙ sym (append_assoc late.front next.before (next.made ∷ next.after))
+
+  -- the tasks before the turns, right before that one, and behind them
+  to_last : MadeTwice (count_of hub + 1) first (before ++ resting) after last
+  to_last = made_split (count_of hub + 1) first last (before ++ resting) after (subst (λ (l : List TurnMade). AreMade (count_of hub + 1) first l last) parts made)
+
+  from_first : MadeTwice (count_of hub + 1) first before resting to_last.mid
+  from_first = made_split (count_of hub + 1) first to_last.mid before resting to_last.front
+
+  to_next : MadeTwice (count_of hub + 1) from_first.mid row (next.made ∷ next.after) to_last.mid
+  to_next = made_split (count_of hub + 1) from_first.mid to_last.mid row (next.made ∷ next.after) (subst (λ (l : List TurnMade). AreMade (count_of hub + 1) from_first.mid l to_last.mid) all from_first.back)
+
+  some : (place : ℕ) → IsHonestPlace hub honest place → 0 < turns_of place row
+  some place mine = omega (arith, fair_rounds hub honest round turns fair place mine 7 before late.front (late.back ++ after) late.at_front late.front_long, turns_append place late.front next.before)
+
+  eight : (place : ℕ) → IsHonestPlace hub honest place → 8 ≤ turns_of place (row ++ next.made ∷ next.after)
+  eight place mine = subst (λ (l : List TurnMade). 8 ≤ turns_of place l) all (fair_rounds hub honest round turns fair place mine 8 before resting after parts long)
+
+  so : (pages : RunPages) × ((so : StretchStands honest pages from_first.mid to_next.mid to_last.mid row next.made next.after) × (so.broker.hub ≡ hub))
+  so =
+      stand before row next.after after next.made from_first.mid to_next.mid to_last.mid (parts ∙ ap (λ (l : List TurnMade). before ++ l ++ after) all) to_next.front to_next.back next.place_is (λ place mine. (some place mine, eight place mine))
+      (subst (Each (λ (m : TurnMade). DoesNothing m.before m.now)) all nothing)
+
+  agent : (place : ℕ) → IsHonestAgent so.1.0.broker.hub honest place → IsHonestPlace hub honest (place + 1)
+  agent place mine = inr (omega (arith, mine.0, ap (λ (h : Domains). count_of h) so.1.1), mine.1)
+
+  too_short : ⊥
+  too_short = no_stretch_lasts_lem honest so.0 from_first.mid to_next.mid to_last.mid row next.made next.after (record {
+    so = so.1.0;
+    made = subst (λ (h : Domains). AreMade (count_of h + 1) from_first.mid row to_next.mid) (sym so.1.1) to_next.front;
+    made_rest = subst (λ (h : Domains). AreMade (count_of h + 1) to_next.mid (next.made ∷ next.after) to_last.mid) (sym so.1.1) to_next.back;
+    next_place = next.place_is;
+    broker_turned = some 0 (inl refl);
+    agents_turned = λ place mine. some (place + 1) (agent place mine);
+    agents_turned_on = λ place mine. eight (place + 1) (agent place mine);
+  })
+
 pub stretches_are_short_lem : StretchesAreShort
-stretches_are_short_lem hub honest round first last turns made fair stand before resting after parts long nothing =
-    let many = count_of hub + 1 in
-    let did : TurnMade → Type 0 = λ (m : TurnMade). DoesNothing m.before m.now in
-    let s = cut turns before resting after parts (7 * round) round (omega (arith, long)) in
-    let f = first_turn 0 s.back (fair (before ++ s.front) s.back after s.at_back s.back_long 0 (inl refl)) in
-    let row : List TurnMade = s.front ++ f.before in
-    let all : resting ≡ row ++ f.made ∷ f.after = s.is ∙ ap (λ (l : List TurnMade). s.front ++ l) f.is ∙ sym (append_assoc s.front f.before (f.made ∷ f.after)) in
-    let two = made_split many first last (before ++ resting) after (subst (λ (l : List TurnMade). AreMade many first l last) parts made) in
-    let one = made_split many first two.mid before resting two.front in
-    let three = made_split many one.mid two.mid row (f.made ∷ f.after) (subst (λ (l : List TurnMade). AreMade many one.mid l two.mid) all one.back) in
-    let some : (place : ℕ) → IsHonestPlace hub honest place → 0 < turns_of place row =
-    λ place mine. omega (arith, fair_rounds hub honest round turns fair place mine 7 before s.front (s.back ++ after) s.at_front s.front_long, turns_append place s.front f.before) in
-    let eight : (place : ℕ) → IsHonestPlace hub honest place → 8 ≤ turns_of place (row ++ f.made ∷ f.after) =
-    λ place mine. subst (λ (l : List TurnMade). 8 ≤ turns_of place l) all (fair_rounds hub honest round turns fair place mine 8 before resting after parts long) in
-    let so = stand before row f.after after f.made one.mid three.mid two.mid (parts ∙ ap (λ (l : List TurnMade). before ++ l ++ after) all) three.front three.back f.place_is (λ place mine. (some place mine, eight place mine)) (subst (Each did) all nothing) in
-    no_stretch_lasts_lem honest so.0 one.mid three.mid two.mid row f.made f.after (record {
-      so = so.1.0;
-      made = subst (λ (h : Domains). AreMade (count_of h + 1) one.mid row three.mid) (sym so.1.1) three.front;
-      made_rest = subst (λ (h : Domains). AreMade (count_of h + 1) three.mid (f.made ∷ f.after) two.mid) (sym so.1.1) three.back;
-      next_place = f.place_is;
-      broker_turned = some 0 (inl refl);
-      agents_turned = λ place mine. some (place + 1) (inr (omega (arith, mine.0, ap (λ (h : Domains). count_of h) so.1.1), mine.1));
-      agents_turned_on = λ place mine. eight (place + 1) (inr (omega (arith, mine.0, ap (λ (h : Domains). count_of h) so.1.1), mine.1));
-    })
+stretches_are_short_lem = too_short
 
 pub fair_turns_are_bounded_lem : FairTurnsAreBounded
 fair_turns_are_bounded_lem hub honest round first last turns some made fair stand =

@@ -70,7 +70,7 @@ done hub awaited journal said lines decided holds kept rest place up r = record 
     core = (rest place r.line r.there r.up).core
 
     a : AgentIsUp hub journal core r.task
-    a = r.agent.agent
+    a = r.agent.is_up
 
     asks : AsksForNone a.channel
     asks = r.agent.asks

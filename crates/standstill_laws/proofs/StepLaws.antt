@@ -1,23 +1,21 @@
 -- Each step of a page leads to a later moment of it.
-use Rattle.std.proofs.Common.{◌≡◌, ℕ, Bool, false, List, refl, sym, ◌∙◌, subst, arith}
+use Rattle.std.proofs.Common.{◌≡◌, ℕ, false, List, refl, sym, ◌∙◌, subst, arith}
 use Rattle.std.proofs.lemmas.Bool.{or_right}
 use Rattle.list_laws.proofs.Prefixes.{prefix_length}
 use Rattle.ring_words.specs.declared.page.Role.{Role}
 use Rattle.ring_words.specs.declared.page.Role.TheVariants.{Server, Client}
-use Rattle.ring_words.specs.declared.order.Orders.{Orders}
 use Rattle.vchan_protocol.specs.declared.call.Call.{Call}
-use Rattle.vchan_protocol.specs.declared.call.EndState.{EndState}
 use Rattle.vchan_protocol.specs.declared.side.Side.{Side}
 use Rattle.vchan_protocol.specs.Table.Plan.{Plan, does, answers, next_op, after, GoesOn}
 use Rattle.vchan_protocol.specs.Table.Ends.{Standing}
 use Rattle.vchan_protocol.specs.Table.Calls.{plan_of}
-use Rattle.vchan_protocol.specs.History.Core.{Core, side_of, with_side, plan_left, op_next, begun_standing, begun, event, begins, made, settled, side_after, taken_next}
+use Rattle.vchan_protocol.specs.History.Core.{Core, side_of, with_side, plan_left, op_next, begun_standing, standing_along, begun, event, begins, made, settled, side_after, taken_next}
 use Rattle.vchan_protocol.specs.Honest.Lawful.{Lawful}
 use Rattle.vchan_protocol.specs.Honest.LifeLaw.{LooksGive, OrdersGive, has_seen}
 use Rattle.vchan_protocol.specs.Honest.Reached.{MayBegin}
 use Rattle.vchan_protocol.specs.Honest.RingLaw.{CallLawful}
 use Rattle.vchan_protocol.proofs.Hostile.TurnedSteps.{stays_next}
-use Rattle.vchan_protocol.proofs.Honest.EndSteps.{in_lawful}
+use Rattle.vchan_protocol.proofs.Honest.EndSteps.{InLawful, in_lawful}
 use Rattle.vchan_protocol.proofs.Honest.LifeTrails.{Lives, OwesLife, lives_call, Lives_Leads}
 use Rattle.vchan_protocol.proofs.Honest.LifeWords.{shut_stays, fresh_before}
 use Rattle.vchan_protocol.proofs.Honest.LawfulSteps.{lawful_event, lawful_begun}
@@ -26,18 +24,23 @@ use Rattle.standstill_laws.proofs.MomentLaws.{end_goes_on, same_end, page_same}
 
 -- ---- one event of an end
 
-owes_first : (said : ℕ × ℕ) (final : ℕ) (role : Role) (orders : Orders) (state : EndState) (cons : ℕ) (seen : Bool) (plan : Plan) → Lives said final role orders state cons seen plan → GoesOn plan → OwesLife (next_op plan) role state
-unfolding Lives
-owes_first said final role orders state cons seen (answers answer) lives more = absurd more
-owes_first said final role orders state cons seen (does op next) lives more = lives.0
-
 -- what an end owes to its state with its next event
 owes_next : (said : ℕ × ℕ) (final : ℕ) (s : Side) → CallLawful s → GoesOn (plan_left s) → LooksGive final s.role false s.trail → OrdersGive said s.trail → OwesLife (op_next s) s.role s.state
-owes_next said final s lawful more looks says =
-    let i = in_lawful s lawful more in
-    let e = begun_standing s i.begun in
-    let along = Lives_Leads said final e false (plan_of e i.begun.call) s.trail (plan_left s) (lives_call said final e i.begun.call i.lawful.allowed) i.led looks says in
-    owes_first said final s.role s.orders s.state s.cons (has_seen s.role s.trail) (plan_left s) (subst (λ (x : Standing). Lives said final s.role s.orders x.state x.cons (has_seen s.role s.trail) (plan_left s)) i.lawful.stands along) more
+unfolding Lives
+owes_next said final s lawful more looks says = first (plan_left s) (subst (λ (x : Standing). Lives said final s.role s.orders x.state x.cons (has_seen s.role s.trail) (plan_left s)) i.lawful.stands along) more
+  where
+    i : InLawful s
+    i = in_lawful s lawful more
+
+    e : Standing
+    e = begun_standing s i.begun
+
+    along : Lives said final e.role e.orders (standing_along e s.trail).state (standing_along e s.trail).cons (has_seen e.role s.trail) (plan_left s)
+    along = Lives_Leads said final e false (plan_of e i.begun.call) s.trail (plan_left s) (lives_call said final e i.begun.call i.lawful.allowed) i.led looks says
+
+    first : (plan : Plan) → Lives said final s.role s.orders s.state s.cons (has_seen s.role s.trail) plan → GoesOn plan → OwesLife (next_op plan) s.role s.state
+    first (answers answer) lives more = absurd more
+    first (does op next) lives more = lives.0
 
 settled_stays : (s : Side) (plan : Plan) → ((settled s plan).state ≡ s.state) × ((settled s plan).retired ≡ s.retired)
 settled_stays s (answers answer) = (refl, refl)

@@ -252,7 +252,7 @@ module _ (honest : ℕ → Bool) (pages : RunPages) (first now last : ℕ → Ta
           domain = d.domain;
           count = d.count;
           agent = λ is. subst (λ u. AgentLasts broker.hub broker.journal (lasts u).rests.first (lasts u).rests.last (lasts u).core d.task) (Bool-set (is_shut (view line.end).state) false up is) (record {
-            agent = d.agent;
+            is_up = d.agent;
             asks = stops.asks;
             found = stops.found;
             sessions = λ i.

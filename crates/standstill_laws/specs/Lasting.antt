@@ -40,9 +40,9 @@ pub data SessionLasts (s : Session) : Type 0 where
 
 -- an agent at a moment of its control page between two others, that said no more in its last turn, for a reason that was so at a moment between
 pub record AgentLasts (hub : Domains) (journal : List Entry) (first last core : Core) (task : AgentState) : Type 0 where
-  pub agent : AgentIsUp hub journal core task
-  pub asks : AsksForNone agent.channel
-  pub found : WasSo first last (λ page. StopsStill page asks.calls asks.before agent.channel asks.stops)
+  pub is_up : AgentIsUp hub journal core task
+  pub asks : AsksForNone is_up.channel
+  pub found : WasSo first last (λ page. StopsStill page asks.calls asks.before is_up.channel asks.stops)
   pub sessions : (i : ℕ) → SessionLasts (session_at task.sessions i)
 
 -- what the broker keeps of a domain that wasn't dropped, between two of its turns that did nothing, at a moment of the control page; both have greeted

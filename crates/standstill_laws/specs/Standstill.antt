@@ -64,9 +64,9 @@ pub record AsksForNone (channel : AgentControl) : Type 0 where
 
 -- such an agent stopped for a reason that is still so, and its sessions stand still
 pub record AgentStandsStill (hub : Domains) (journal : List Entry) (core : Core) (task : AgentState) : Type 0 where
-  pub agent : AgentIsUp hub journal core task
-  pub asks : AsksForNone agent.channel
-  pub still : StopsStill core asks.calls asks.before agent.channel asks.stops
+  pub is_up : AgentIsUp hub journal core task
+  pub asks : AsksForNone is_up.channel
+  pub still : StopsStill core asks.calls asks.before is_up.channel asks.stops
   pub sessions : (i : ℕ) → SessionStandsStill task.plan.version (session_at task.sessions i)
 
 -- the port of what the broker keeps of the domain at this place, by which it has attended to the domain

@@ -39,7 +39,7 @@ turns_of place turns = count_by (λ made. place == made.place) turns
 
 -- ---- a session
 
--- the agent of a domain at both ends of a stretch, and its session at this place, a side of which has the end of this role of its page
+-- the agent of a domain at both ends of a stretch, and its session at this place: a side that has the end of this role of its page
 pub record SideStays (span : Span) (first now : ℕ → Task) (who : Role) (place i : ℕ) : Type 0 where
   pub old : AgentState
   pub new : AgentState
@@ -53,7 +53,7 @@ pub record SideStays (span : Span) (first now : ℕ → Task) (who : Role) (plac
   pub was_held : IsHeld (session_with who from) (side_of span.first who)
   pub is_held : IsHeld (session_with who to) (side_of span.last who)
 
--- the agent at the first moment, of which a session at this place is on a page that its peer, a hostile domain, had left before
+-- the agent at the first moment, and its session at this place: a side on a page that its peer, a hostile domain, had left before
 pub record StaysAlone (pages : RunPages) (first : ℕ → Task) (place i : ℕ) : Type 0 where
   pub who : Role
   pub at : ℕ → Core
