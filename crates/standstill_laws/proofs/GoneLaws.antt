@@ -1,7 +1,6 @@
 -- A hostile domain that is done has left its pages: its gone word is 1 from its own store to it on, since an honest peer leaves that word alone.
 use Rattle.std.proofs.Common.{◌≡◌, ◌≢◌, ℕ, ◌<◌, ◌≤◌, ◌&&◌, ◌==◌, Bool, true, false, cond, List, [], ◌∷◌, ◌++◌, length, slice_index, get_or-set_same, get_or-set_other, append_assoc, refl, sym, ap, ◌∙◌, subst, arith}
-use Rattle.std.proofs.lemmas.List.{set-get_or}
-use Rattle.std.proofs.lemmas.Bool.{false≢true}
+use Rattle.std.proofs.lemmas.List.{set-get_or, same_from_push}
 use Rattle.ring_words.specs.Page.{index_of}
 use Rattle.ring_words.specs.declared.order.Orders.{Orders}
 use Rattle.ring_words.specs.declared.page.Ring.{Ring}
@@ -42,6 +41,7 @@ use Rattle.task_duties.specs.Hostile.Stores.{role_at, loaded}
 use Rattle.task_duties.specs.Hostile.Trail.{IsTrail, retiring}
 use Rattle.standstill_laws.specs.Sessions.{PeerHasLeft}
 use Rattle.standstill_laws.specs.Hostile.{DoneHaveLeft}
+use Rattle.standstill_laws.proofs.TakingLaws.{honest_or}
 
 -- ---- an honest end leaves the gone word of its peer alone
 
@@ -209,25 +209,13 @@ not_empty (x ∷ before) rest e is = cc
 none_tells : (role : Role) (word : ℕ) → Tells role [] word
 none_tells role word = record { left = λ before is. absurd (not_empty before [] _ is); woken = λ before is. absurd (not_empty before _ _ is) }
 
-last_apart : {X : Type 0} (xs ys : List X) (x y : X) → xs ++ x ∷ [] ≡ ys ++ y ∷ [] → (xs ≡ ys) × (x ≡ y)
-last_apart [] [] x y is = (refl, cc)
-last_apart [] (b ∷ []) x y is = cc
-last_apart [] (b ∷ b' ∷ ys) x y is = cc
-last_apart (a ∷ []) [] x y is = cc
-last_apart (a ∷ a' ∷ xs) [] x y is = cc
-last_apart {X} (a ∷ xs) (b ∷ ys) x y is =
-    let rest : xs ++ x ∷ [] ≡ ys ++ y ∷ [] = cc in
-    let both = last_apart xs ys x y rest in
-    let first : a ≡ b = cc in
-    (ap (λ (z : X). z ∷ xs) first ∙ ap (λ (l : List X). b ∷ l) both.0, both.1)
-
 -- another event of the peer, on a page that has all words
 one_more : (role : Role) (orders : Orders) (words : List ℕ) (trail : List PastEvent) (op : Op) (taken : ℕ) → 14 ≤ length words → Tells role trail (slice_index words (index_of orders (own_gone role)))
     → Tells role (trail ++ past op taken ∷ []) (slice_index (words_after orders words [] op) (index_of orders (own_gone role)))
 one_more role orders words trail op taken long tells = record {
-  left = λ before is. sets role op (ap (λ (e : PastEvent). e.op) (last_apart trail before (past op taken) (leaves role) is).1);
+  left = λ before is. sets role op (ap (λ (e : PastEvent). e.op) (same_from_push trail before (past op taken) (leaves role) is).1);
   woken = λ before is.
-      let both = last_apart trail (before ++ leaves role ∷ []) (past op taken) (wakes role) (is ∙ sym (append_assoc before (leaves role ∷ []) (wakes role ∷ []))) in
+      let both = same_from_push trail (before ++ leaves role ∷ []) (past op taken) (wakes role) (is ∙ sym (append_assoc before (leaves role ∷ []) (wakes role ∷ []))) in
       keeps role op (ap (λ (e : PastEvent). e.op) both.1) ∙ tells.left before both.0;
 }
   where
@@ -257,9 +245,6 @@ turned_tells role s consumed word was = by s.turned refl
     by : (b : Bool) → s.turned ≡ b → Tells role (turned_side s consumed).trail word
     by true given = same_tells role s.trail _ word word (ap (λ (x : Side). x.trail) (turned_side_given s consumed given)) refl (was given)
     by false honest = same_tells role [] _ word word (ap (λ (x : Side). x.trail) (turned_side_honest s consumed honest)) refl (none_tells role word)
-
-honest_or : {X : Type 0} (b : Bool) → b ≡ true → b ≡ false → X
-honest_or b given honest = absurd (false≢true (sym honest ∙ given))
 
 -- the end in this role is turned over, and its peer is honest
 tells_all : (core : Core) (role : Role) → MayCome core → (side_of core role).turned ≡ true → (side_of core (peer role)).turned ≡ false → TellsOf core role

@@ -211,8 +211,9 @@ takes_stored order most prod got cons word role value e trail n order_is role_is
     go SrvLive Server (suc value) order_is role_is owes = w
     go _ _ value order_is role_is owes = w
 
-apart : (b : Bool) → b ≡ true → b ≡ false → ⊥
-apart b yes_is no_is = false≢true (sym no_is ∙ yes_is)
+-- no end is both turned and honest
+pub honest_or : {X : Type 0} (turned : Bool) → turned ≡ true → turned ≡ false → X
+honest_or turned given honest = absurd (false≢true (sym honest ∙ given))
 
 -- ---- an end and its peer
 
@@ -377,8 +378,8 @@ each_takes core Server (opens orders start said state below left right fresh) ho
 each_takes core Client (opens orders start said state below left right fresh) honest given = absurd (false≢true given)
 each_takes core Server (begins_call before Server call payload there was may) honest given = takes_begun _ _ _ _ _ _ (each_takes before Server there was given)
 each_takes core Client (begins_call before Client call payload there was may) honest given = takes_begun _ _ _ _ _ _ (each_takes before Client there was given)
-each_takes core Server (begins_call before Client call payload there was may) honest given = absurd (apart _ given was)
-each_takes core Client (begins_call before Server call payload there was may) honest given = absurd (apart _ given was)
+each_takes core Server (begins_call before Client call payload there was may) honest given = honest_or _ given was
+each_takes core Client (begins_call before Server call payload there was may) honest given = honest_or _ given was
 each_takes core Server (makes_event before Server there was more) honest given =
     let h = (each_has_invariant before there).turned in
     takes_event before.start before.orders before.words Server before.server before.client h.server_end.role_is h.server_end.orders_are (h.server was) more (each_takes before Server there was given)
@@ -386,15 +387,15 @@ each_takes core Client (makes_event before Client there was more) honest given =
     let h = (each_has_invariant before there).turned in
     takes_event before.start before.orders before.words Client before.client before.server h.client_end.role_is h.client_end.orders_are (h.client was) more (each_takes before Client there was given)
 each_takes core Server (makes_event before Client there was more) honest given =
-    absurd (apart _ given ((stays_next before.client (op_next before.client) (taken_next before Client) (plan_next before Client)).turned ∙ was))
+    honest_or _ given ((stays_next before.client (op_next before.client) (taken_next before Client) (plan_next before Client)).turned ∙ was)
 each_takes core Client (makes_event before Server there was more) honest given =
-    absurd (apart _ given ((stays_next before.server (op_next before.server) (taken_next before Server) (plan_next before Server)).turned ∙ was))
-each_takes core Server (is_turned before Server there) honest given = absurd (apart _ (turned_turned_side before.server (length before.client.got)) honest)
-each_takes core Client (is_turned before Client there) honest given = absurd (apart _ (turned_turned_side before.client (length before.server.got)) honest)
+    honest_or _ given ((stays_next before.server (op_next before.server) (taken_next before Server) (plan_next before Server)).turned ∙ was)
+each_takes core Server (is_turned before Server there) honest given = honest_or _ (turned_turned_side before.server (length before.client.got)) honest
+each_takes core Client (is_turned before Client there) honest given = honest_or _ (turned_turned_side before.client (length before.server.got)) honest
 each_takes core Server (is_turned before Client there) honest given = takes_turning before Server there honest (λ was. each_takes before Server there honest was)
 each_takes core Client (is_turned before Server there) honest given = takes_turning before Client there honest (λ was. each_takes before Client there honest was)
-each_takes core Server (strays_by before Server op there) honest given = absurd (apart _ (turned_turned_side before.server (length before.client.got)) honest)
-each_takes core Client (strays_by before Client op there) honest given = absurd (apart _ (turned_turned_side before.client (length before.server.got)) honest)
+each_takes core Server (strays_by before Server op there) honest given = honest_or _ (turned_turned_side before.server (length before.client.got)) honest
+each_takes core Client (strays_by before Client op there) honest given = honest_or _ (turned_turned_side before.client (length before.server.got)) honest
 each_takes core Server (strays_by before Client op there) honest given =
     takes_stray before.orders before.words [] Server before.server (turned_side before.client (length before.server.got)) op (value_taken before.orders before.words op)
     (takes_turning before Server there honest (λ was. each_takes before Server there honest was))
