@@ -23,6 +23,8 @@ mod WorkLaws
 mod TakingLaws
 mod ActingLaws
 mod MixedLaws
+mod RunOfThree
+mod MixedRunLaws
 mod KeepingLaws
 mod OwnLaws
 mod SideLaws

@@ -1,9 +1,11 @@
 -- How much all tasks of a run have done at most, some of whose domains are hostile, and how many turns they make.
 -- Source: this project's own.
-use Rattle.std.specs.Prelude.{◌≡◌, ℕ, Bool, ◌+◌, ◌*◌, ◌<◌, ◌≤◌, true, false, List, [], ◌++◌, length, map, filter_map, if◌then◌else◌, MatchBool, IsPermutation, Option, Some, None}
+use Rattle.std.specs.Prelude.{◌≡◌, ℕ, Bool, ◌+◌, ◌*◌, ◌<◌, ◌≤◌, true, false, List, [], ◌∷◌, ◌++◌, length, map, filter_map, if◌then◌else◌, MatchBool, IsPermutation, Option, Some, None}
 use Rattle.std.specs.List.{sum_by, flat_map, AllByRecursion as Each}
 use Rattle.list_laws.specs.Lists.{IsPartOf}
 use Rattle.ring_words.specs.Rings.{size}
+use Rattle.ring_words.specs.declared.order.Orders.{Orders}
+use Rattle.ring_words.specs.declared.page.Ring.TheVariants.{Right}
 use Rattle.ring_words.specs.declared.page.Role.{Role}
 use Rattle.ring_words.specs.declared.page.Role.TheVariants.{Server, Client}
 use Rattle.vchan_protocol.specs.declared.side.Side.{Side}
@@ -18,24 +20,27 @@ use Rattle.call_broker.specs.Domains.{Domains, count_of, name_of}
 use Rattle.scenario_file.specs.declared.scenario.CallPlan.{CallPlan}
 use Rattle.task_duties.specs.declared.place.PagePlace.{PagePlace}
 use Rattle.task_duties.specs.declared.place.PagePlace.TheVariants.{Control}
+use Rattle.task_duties.specs.declared.turn.TaskTurn.TheVariants.{Again}
 use Rattle.task_duties.specs.Agent.Given.{AgentPlan}
 use Rattle.task_duties.specs.Agent.Sessions.{chunk}
 use Rattle.task_duties.specs.Hostile.Given.{HostilePlan}
 use Rattle.task_duties.specs.Hostile.Stores.{orders_at}
 use Rattle.agent_slots.specs.Sessions.{Session}
-use Rattle.agent_task.specs.State.{AgentState}
+use Rattle.agent_task.specs.State.{AgentState, TellsSoFar}
 use Rattle.broker_task.specs.Given.{BrokerState}
 use Rattle.broker_task.specs.Letters.{IsAt}
 use Rattle.broker_task.specs.Lines.{BrokerEnd}
 use Rattle.broker_task.specs.Moving.{BrokerLine}
 use Rattle.broker_task.specs.Standing.{Stands}
+use Rattle.broker_task.specs.Turns.{StandsAfter}
 use Rattle.hostile_task.specs.Plan.{HostileState}
-use Rattle.hostile_task.specs.Turns.{all_turns}
+use Rattle.hostile_task.specs.Turns.{all_turns, HasDone}
 use Rattle.domain_task.specs.declared.task.Task.{Task}
 use Rattle.domain_task.specs.declared.task.Task.TheVariants.{Agent, Broker, Hostile}
 use Rattle.domain_task.specs.Working.{bytes_on, bytes_of}
 use Rattle.standstill_laws.specs.Acting.{all_shows, IsOfActs}
 use Rattle.standstill_laws.specs.Counting.{TurnMade, work_of_all}
+use Rattle.standstill_laws.specs.Taking.{shows_of}
 use Rattle.standstill_laws.specs.Traffic.{sum_below, IsControlPage, call_bytes}
 use Rattle.standstill_laws.specs.Work.{DataPage, both_sessions, IsOfEnd, IsDataPage, all_below, call_work}
 use Rattle.standstill_laws.specs.Leaving.{IsFairRun, most_turns}
@@ -177,3 +182,35 @@ MixedWorkIsBounded = (hub : Domains) (honest : ℕ → Bool) (tasks : ℕ → Ta
 abbrev pub MixedRunsAreBounded : Type 0
 MixedRunsAreBounded = (hub : Domains) (honest : ℕ → Bool) (round : ℕ) (first mid last : ℕ → Task) (during afterwards : List TurnMade) (broker : BrokerState) (agents : ℕ → AgentState) (hostiles : ℕ → HostileState)
     → IsFairRun hub honest round first mid last during afterwards → IsMixedRun hub honest last broker agents hostiles → length during + length afterwards < most_turns round (mixed_work hub honest agents hostiles)
+
+-- ---- there are such runs
+
+-- a run of three domains, whose control pages have these orders and began at this number. The first two are honest, and the first one has a call to each of the others, each with its page. The third is hostile: it has stored a producer index on its control page, and has acts left
+pub record IsRunOfThree (orders : Orders) (start : ℕ) (hub : Domains) (honest : ℕ → Bool) (tasks : ℕ → Task) (broker : BrokerState) (agents : ℕ → AgentState) (hostiles : ℕ → HostileState) : Type 0 where
+  pub run : IsMixedRun hub honest tasks broker agents hostiles
+  pub three : count_of hub ≡ 3
+  pub first_honest : honest 1 ≡ true
+  pub second_honest : honest 2 ≡ true
+  pub third_hostile : honest 3 ≡ false
+  pub begun : (place : ℕ) → place < 3 → ((run.pages place).orders ≡ orders) × ((run.pages place).start ≡ start)
+  pub to_honest : CallPlan
+  pub to_hostile : CallPlan
+  pub calls : (agents 0).plan.calls ≡ to_honest ∷ to_hostile ∷ []
+  pub honest_page : map (λ p. p.call) run.data_pages ≡ to_honest ∷ []
+  pub hostile_page : map (λ p. p.call) (run.hostile_pages 2) ≡ Some to_hostile ∷ []
+  pub shown : shows_of Right (run.pages 2).server.trail ≡ 1
+  pub acts_left : (hostiles 2).acts < length (hostiles 2).plan.acts
+  -- what contracts say of where each task stands after a turn holds of it, and its ends are those of the run's pages
+  pub broker_stands : StandsAfter (Again broker)
+  pub journal_is : run.journal ≡ broker.journal
+  pub broker_ends : run.ends ≡ broker.controls
+  pub agents_stand : (place : ℕ) → place < 3 → honest (place + 1) ≡ true → TellsSoFar (agents place)
+  pub agents_got : (place : ℕ) → place < 3 → honest (place + 1) ≡ true → (agents place).control.got ≡ (run.pages place).server.got
+  pub agents_sent : (place : ℕ) → place < 3 → honest (place + 1) ≡ true → (agents place).control.sent ≡ (run.pages place).server.sent
+  pub hostile_stands : HasDone (hostiles 2)
+  pub hostile_ends : map (λ e. e.view.trail) (hostiles 2).now ≡ (run.pages 2).server.trail ∷ map (λ p. p.core.client.trail) (run.hostile_pages 2)
+
+-- there is one, of any orders and any number
+abbrev pub MixedRunsAreThere : Orders → ℕ → Type 0
+MixedRunsAreThere orders start =
+    (hub : Domains) × (honest : ℕ → Bool) × (tasks : ℕ → Task) × (broker : BrokerState) × (agents : ℕ → AgentState) × (hostiles : ℕ → HostileState) × IsRunOfThree orders start hub honest tasks broker agents hostiles

@@ -1,4 +1,5 @@
 //! The laws, each the contract of a function with no body.
+ghost use Rattle.std.specs.Prelude.{ℕ, ◌<◌, ◌^◌};
 ghost use Rattle.ring_words.specs.declared.order.Orders.{Orders};
 ghost use Rattle.standstill_laws.specs.Page.{PageStandsStill, StillPagesAreThere};
 ghost use Rattle.standstill_laws.specs.Session.{SessionsGoOn};
@@ -18,7 +19,7 @@ ghost use Rattle.standstill_laws.specs.Traffic.{AgentsSpeak, ControlMessagesAreF
 ghost use Rattle.standstill_laws.specs.Work.{SidesSendSo, RunWorkIsBounded, RunTurnsAreBounded};
 ghost use Rattle.standstill_laws.specs.Taking.{TakenIsBounded};
 ghost use Rattle.standstill_laws.specs.Acting.{EndsAreOfActs, ActsShowFew, TakenFromDomains};
-ghost use Rattle.standstill_laws.specs.Mixed.{ControlBytesAreBounded, MixedWorkIsBounded, MixedRunsAreBounded};
+ghost use Rattle.standstill_laws.specs.Mixed.{ControlBytesAreBounded, MixedWorkIsBounded, MixedRunsAreBounded, MixedRunsAreThere};
 ghost use Rattle.standstill_laws.specs.Stretch.{ControlPagesRest, DataPagesRest, StretchesRest};
 ghost use Rattle.standstill_laws.specs.Moments.{MomentsRest, PagesGoOn};
 ghost use Rattle.standstill_laws.specs.Pace.{NoSessionRests};
@@ -420,4 +421,11 @@ pub fn mixed_runs_are_bounded()
 /// Pages that stand still exist, whatever their orders: one that was just opened, by what a drain of it loads.
 pub fn still_pages_are_there()
     ensures { (orders : Orders) → StillPagesAreThere orders }
+{}
+
+/// Runs with a hostile domain exist, whatever the orders of their control pages and the number at which these begin: one of
+/// three domains, the first of which has a call to each of the others. The third is hostile: it has stored a producer index
+/// on its control page, and has acts left.
+pub fn mixed_runs_are_there()
+    ensures { (orders : Orders) (start : ℕ) → start < 2 ^ 32 → MixedRunsAreThere orders start }
 {}
