@@ -23,7 +23,7 @@ use Rattle.scenario_file.specs.declared.scenario.CallPlan.{CallPlan}
 use Rattle.task_duties.specs.declared.place.PagePlace.TheVariants.{Control, Payload}
 use Rattle.task_duties.specs.Hostile.Stores.{stored}
 use Rattle.task_duties.specs.Hostile.Trail.{first_voice}
-use Rattle.task_duties.specs.Agent.Answers.{Asked, Waits}
+use Rattle.task_duties.specs.Agent.Answers.{Waits}
 use Rattle.task_duties.specs.declared.turn.TaskTurn.TheVariants.{Again}
 use Rattle.agent_queue.specs.Queue.{Queued, asked_as, fresh}
 use Rattle.agent_slots.specs.Sessions.{NotBegun}
@@ -222,13 +222,13 @@ none_open (c ∷ calls) (suc place) call is = none_open calls place call is
 closed : {A : Type 0} (calls : List CallPlan) (place : ℕ) (call : Queued) → slice_get (map fresh calls) place ≡ Some call → call.is_open ≡ true → A
 closed calls place call is up = let bad : false ≡ true = sym (none_open calls place call is) ∙ up in cc
 
-same_calls : (calls : List CallPlan) → map (λ a. a.call) (map asked_as (map fresh calls)) ≡ calls
-same_calls [] = refl
-same_calls (c ∷ calls) = ap (λ (more : List CallPlan). c ∷ more) (same_calls calls)
+same_calls : (place : ℕ) → map (λ a. a.call) (map asked_as (map fresh (plan_at place).calls)) ≡ (plan_at place).calls
+same_calls zero = refl
+same_calls (suc place) = refl
 
-all_wait : (calls : List CallPlan) → map asked_as (map fresh calls) ≡ map (λ call. record { call = call; answer = Waits }) calls
-all_wait [] = refl
-all_wait (c ∷ calls) = ap (λ (more : List Asked). record { call = c; answer = Waits } ∷ more) (all_wait calls)
+all_wait : (place : ℕ) → map asked_as (map fresh (plan_at place).calls) ≡ map (λ call. record { call = call; answer = Waits }) (plan_at place).calls
+all_wait zero = refl
+all_wait (suc place) = refl
 
 all_free : (place : ℕ) → (plan_at place).places ≡ places_free (plan_at place).places (sessions_at place)
 all_free zero = refl
@@ -250,8 +250,8 @@ channel_is orders start place = record {
   says = record { each = tt; whole = (refl, refl) };
   hears = refl;
   waiting = refl;
-  calls = same_calls (plan_at place).calls;
-  answered = all_wait (plan_at place).calls;
+  calls = same_calls place;
+  answered = all_wait place;
   asks = refl;
   opened = λ none at call is up. closed (plan_at place).calls at call is up;
 }
