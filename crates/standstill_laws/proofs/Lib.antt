@@ -4,6 +4,7 @@ mod TurnLaws
 mod ControlLaws
 mod SayingLaws
 mod LetterLaws
+mod GreetingLaws
 mod AnswerLaws
 mod AskingLaws
 mod SettleLaws

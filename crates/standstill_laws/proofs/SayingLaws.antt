@@ -55,7 +55,7 @@ fails_not core who room up bytes before now f s = by_answer f.answer f.refused f
     by_answer PeerClosed refused cause found = up (record { loads = loads; shut = shut_by begun (most_asked bytes) loads cause; still = found })
 
 -- so on a page that stands still
-fails_never : (core : Core) → IsStillPage core → (who : Role) (bytes : List ℕ) (before now : SeatedEnd) (f : FailsToSend bytes before now) → ¬ FailsStill core who bytes before now f
+pub fails_never : (core : Core) → IsStillPage core → (who : Role) (bytes : List ℕ) (before now : SeatedEnd) (f : FailsToSend bytes before now) → ¬ FailsStill core who bytes before now f
 fails_never core p who bytes before now f = fails_not core who ((page_of core p).has_room who) (λ shut. there core p who ((page_of core p).is_shut who shut)) bytes before now f
 
 less_never : (core : Core) → IsStillPage core → (who : Role) (count : ℕ) (before now : SeatedEnd) (f : FindsLess before now count) → ¬ LessStill core who count before now f

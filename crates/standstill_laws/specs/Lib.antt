@@ -5,6 +5,7 @@ pub mod Turns
 pub mod Control
 pub mod Saying
 pub mod Letters
+pub mod Greeting
 pub mod Answers
 pub mod Asking
 pub mod Settling

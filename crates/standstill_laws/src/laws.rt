@@ -7,6 +7,7 @@ ghost use Rattle.standstill_laws.specs.Turns.{NoSessionStandsStill};
 ghost use Rattle.standstill_laws.specs.Control.{AllIsHeard};
 ghost use Rattle.standstill_laws.specs.Saying.{AgentsHaveSaidAll, BrokerHasSaidAll};
 ghost use Rattle.standstill_laws.specs.Letters.{AllAnswersAreSaid, AllAnswersAreHeard};
+ghost use Rattle.standstill_laws.specs.Greeting.{GreetingsAreRead};
 ghost use Rattle.standstill_laws.specs.Answers.{EachTriggerIsAnswered, AllCallsAreAnswered};
 ghost use Rattle.standstill_laws.specs.Asking.{AgentsHaveAskedAll, NoSessionBegins};
 ghost use Rattle.standstill_laws.specs.Sessions.{NoSessionIsOpen, NoSessionIsLeftAlone, PeerIsThere};
@@ -66,6 +67,12 @@ pub fn agents_have_said_all()
 /// the domain has greeted. Messages fit the ring.
 pub fn broker_has_said_all()
     ensures { BrokerHasSaidAll }
+{}
+
+/// Where a control page stands still, both sides have greeted, and each has read the other's greeting, if the agent made a
+/// turn, in which it greets unless it has, and the broker said nothing to the domain in one. Messages fit the ring.
+pub fn greetings_are_read()
+    ensures { GreetingsAreRead }
 {}
 
 /// Where the control page of each domain that wasn't dropped stands still, and each of them has greeted, no
