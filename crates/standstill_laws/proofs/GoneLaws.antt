@@ -22,15 +22,15 @@ use Rattle.vchan_protocol.specs.Table.Plan.{Plan, answers, does, next_op, past, 
 use Rattle.vchan_protocol.specs.Table.Ends.{Standing, low16, own_live, own_gone, peer_gone, peer_pending, prod_word, cons_word, written_ring, read_ring}
 use Rattle.vchan_protocol.specs.Table.Calls.{plan_of, connect, connect_right, close, retire, retire_shut}
 use Rattle.vchan_protocol.specs.Table.Apply.{words_after, value_taken}
-use Rattle.vchan_protocol.specs.History.Core.{Core, side_of, plan_left, op_next, begun_standing, event}
+use Rattle.vchan_protocol.specs.History.Core.{Core, side_of, begun, plan_left, op_next, begun_standing, event}
 use Rattle.vchan_protocol.specs.History.TrailSummary.{summary}
 use Rattle.vchan_protocol.specs.History.Peer.{peer, held}
-use Rattle.vchan_protocol.specs.Always.Invariant.{MayCome, opens, begins_call, makes_event, is_turned, strays as makes_stray}
+use Rattle.vchan_protocol.specs.Always.Invariant.{MayCome}
 use Rattle.vchan_protocol.specs.Honest.RingLaw.{CallLawful}
-use Rattle.vchan_protocol.specs.Hostile.Turned.{turned_side}
-use Rattle.vchan_protocol.specs.Hostile.TurnedLaw.{TurnedLawful}
+use Rattle.vchan_protocol.specs.Hostile.Turned.{turned_side, strayed}
+use Rattle.vchan_protocol.specs.Hostile.TurnedLaw.{TurnedLawful, turned_core}
 use Rattle.vchan_protocol.proofs.Always.InvariantSteps.{each_has_invariant}
-use Rattle.vchan_protocol.proofs.Hostile.TurnedSteps.{event_grows, turned_turned_side, turned_side_honest, turned_side_given}
+use Rattle.vchan_protocol.proofs.Hostile.TurnedSteps.{event_grows, turned_side_honest, turned_side_given}
 use Rattle.vchan_protocol.proofs.Honest.EndSteps.{InLawful, in_lawful, owes_now}
 use Rattle.vchan_protocol.proofs.OneEnd.EachEvent.{KindsHave, each_event, each_answers, each_does}
 use Rattle.vchan_protocol.proofs.Table.Sound.{OwesSound, IsFlag}
@@ -41,7 +41,7 @@ use Rattle.task_duties.specs.Hostile.Stores.{role_at, loaded}
 use Rattle.task_duties.specs.Hostile.Trail.{IsTrail, retiring}
 use Rattle.standstill_laws.specs.Sessions.{PeerHasLeft}
 use Rattle.standstill_laws.specs.Hostile.{DoneHaveLeft}
-use Rattle.standstill_laws.proofs.TakingLaws.{honest_or}
+use Rattle.standstill_laws.proofs.BesideLaws.{holds}
 
 -- ---- an honest end leaves the gone word of its peer alone
 
@@ -229,8 +229,8 @@ one_more role orders words trail op taken long tells = record {
 
 -- ---- whatever comes
 
-abbrev TellsOf : Core → Role → Type 0
-TellsOf core role = Tells role (side_of core role).trail (held core (own_gone role))
+abbrev TellsAt : Core → Role → Type 0
+TellsAt core who = Tells (peer who) (side_of core (peer who)).trail (held core (own_gone (peer who)))
 
 long_words : (core : Core) → TurnedLawful core → 14 ≤ length core.words
 long_words core h = omega (arith, h.sized)
@@ -238,52 +238,40 @@ long_words core h = omega (arith, h.sized)
 same_tells : (role : Role) (trail now : List PastEvent) (word then_word : ℕ) → now ≡ trail → then_word ≡ word → Tells role trail word → Tells role now then_word
 same_tells role trail now word then_word trails words tells = record { left = λ before is. words ∙ tells.left before (sym trails ∙ is); woken = λ before is. words ∙ tells.woken before (sym trails ∙ is) }
 
--- an end that is turned now has an empty trail, or was turned before
-turned_tells : (role : Role) (s : Side) (consumed word : ℕ) → (s.turned ≡ true → Tells role s.trail word) → Tells role (turned_side s consumed).trail word
-turned_tells role s consumed word was = by s.turned refl
-  where
-    by : (b : Bool) → s.turned ≡ b → Tells role (turned_side s consumed).trail word
-    by true given = same_tells role s.trail _ word word (ap (λ (x : Side). x.trail) (turned_side_given s consumed given)) refl (was given)
-    by false honest = same_tells role [] _ word word (ap (λ (x : Side). x.trail) (turned_side_honest s consumed honest)) refl (none_tells role word)
+turned_now : (core : Core) (who : Role) → MayCome core → (side_of core who).turned ≡ false → (side_of core (peer who)).turned ≡ false → TellsAt (turned_core core (peer who)) who
+turned_now core Server may honest fair =
+    same_tells Client [] _ _ _ (ap (λ (s : Side). s.trail) (turned_side_honest core.client (length core.server.got) fair)) refl (none_tells Client (held core (own_gone Client)))
+turned_now core Client may honest fair =
+    same_tells Server [] _ _ _ (ap (λ (s : Side). s.trail) (turned_side_honest core.server (length core.client.got) fair)) refl (none_tells Server (held core (own_gone Server)))
 
--- the end in this role is turned over, and its peer is honest
-tells_all : (core : Core) (role : Role) → MayCome core → (side_of core role).turned ≡ true → (side_of core (peer role)).turned ≡ false → TellsOf core role
-tells_all core Server (opens orders start said state _ _ _ _) given honest = honest_or _ given refl
-tells_all core Client (opens orders start said state _ _ _ _) given honest = honest_or _ given refl
-tells_all core Server (begins_call before Client call payload may fair _) given honest = let t = tells_all before Server may given honest in record { left = t.left; woken = t.woken }
-tells_all core Client (begins_call before Server call payload may fair _) given honest = let t = tells_all before Client may given honest in record { left = t.left; woken = t.woken }
-tells_all core Server (begins_call before Server call payload may fair _) given honest = honest_or _ given fair
-tells_all core Client (begins_call before Client call payload may fair _) given honest = honest_or _ given fair
-tells_all core Server (makes_event before Client may fair more) given honest =
-    let grown = event_grows before Client in
-    let was = tells_all before Server may (ap (λ (s : Side). s.turned) (sym grown.0) ∙ given) fair in
-    same_tells Server before.server.trail _ (held before (own_gone Server)) _ (ap (λ (s : Side). s.trail) grown.0) (honest_spares before Client (each_has_invariant before may).turned fair more) was
-tells_all core Client (makes_event before Server may fair more) given honest =
-    let grown = event_grows before Server in
-    let was = tells_all before Client may (ap (λ (s : Side). s.turned) (sym grown.0) ∙ given) fair in
-    same_tells Client before.client.trail _ (held before (own_gone Client)) _ (ap (λ (s : Side). s.trail) grown.0) (honest_spares before Server (each_has_invariant before may).turned fair more) was
-tells_all core Server (makes_event before Server may fair more) given honest = honest_or _ given ((event_grows before Server).1.turned ∙ fair)
-tells_all core Client (makes_event before Client may fair more) given honest = honest_or _ given ((event_grows before Client).1.turned ∙ fair)
-tells_all core Server (is_turned before Server may) given honest = turned_tells Server before.server (length before.client.got) (held before (own_gone Server)) (λ was. tells_all before Server may was honest)
-tells_all core Client (is_turned before Client may) given honest = turned_tells Client before.client (length before.server.got) (held before (own_gone Client)) (λ was. tells_all before Client may was honest)
-tells_all core Server (is_turned before Client may) given honest = honest_or _ (turned_turned_side before.client (length before.server.got)) honest
-tells_all core Client (is_turned before Server may) given honest = honest_or _ (turned_turned_side before.server (length before.client.got)) honest
-tells_all core Server (makes_stray before Server op may) given honest =
-    one_more Server before.orders before.words (turned_side before.server (length before.client.got)).trail op (value_taken before.orders before.words op) (long_words before (each_has_invariant before may).turned)
-    (turned_tells Server before.server (length before.client.got) (held before (own_gone Server)) (λ was. tells_all before Server may was honest))
-tells_all core Client (makes_stray before Client op may) given honest =
-    one_more Client before.orders before.words (turned_side before.client (length before.server.got)).trail op (value_taken before.orders before.words op) (long_words before (each_has_invariant before may).turned)
-    (turned_tells Client before.client (length before.server.got) (held before (own_gone Client)) (λ was. tells_all before Client may was honest))
-tells_all core Server (makes_stray before Client op may) given honest = honest_or _ (turned_turned_side before.client (length before.server.got)) honest
-tells_all core Client (makes_stray before Server op may) given honest = honest_or _ (turned_turned_side before.server (length before.client.got)) honest
+begun_now : (core : Core) (who : Role) (call : Call) (payload : List ℕ) → TellsAt core who → TellsAt (begun core who call payload) who
+begun_now core Server call payload t = record { left = t.left; woken = t.woken }
+begun_now core Client call payload t = record { left = t.left; woken = t.woken }
+
+event_now : (core : Core) (who : Role) → MayCome core → (side_of core who).turned ≡ false → GoesOn (plan_left (side_of core who)) → TellsAt core who → TellsAt (event core who) who
+event_now core Server may honest more t =
+    same_tells Client core.client.trail _ (held core (own_gone Client)) _ (ap (λ (s : Side). s.trail) (event_grows core Server).0) (honest_spares core Server (each_has_invariant core may).turned honest more) t
+event_now core Client may honest more t =
+    same_tells Server core.server.trail _ (held core (own_gone Server)) _ (ap (λ (s : Side). s.trail) (event_grows core Client).0) (honest_spares core Client (each_has_invariant core may).turned honest more) t
+
+stray_now : (core : Core) (who : Role) (op : Op) → MayCome core → (side_of core (peer who)).turned ≡ true → TellsAt core who → TellsAt (strayed core (peer who) op) who
+stray_now core Server op may given t =
+    one_more Client core.orders core.words (turned_side core.client (length core.server.got)).trail op (value_taken core.orders core.words op) (long_words core (each_has_invariant core may).turned)
+    (same_tells Client core.client.trail _ (held core (own_gone Client)) _ (ap (λ (s : Side). s.trail) (turned_side_given core.client (length core.server.got) given)) refl t)
+stray_now core Client op may given t =
+    one_more Server core.orders core.words (turned_side core.server (length core.client.got)).trail op (value_taken core.orders core.words op) (long_words core (each_has_invariant core may).turned)
+    (same_tells Server core.server.trail _ (held core (own_gone Server)) _ (ap (λ (s : Side). s.trail) (turned_side_given core.server (length core.client.got) given)) refl t)
+
+tells_all : (core : Core) (who : Role) → MayCome core → (side_of core who).turned ≡ false → (side_of core (peer who)).turned ≡ true → TellsAt core who
+tells_all = holds TellsAt (record { turns_peer = turned_now; begins = begun_now; makes = event_now; is_poked = stray_now })
 
 one_left : (word : ℕ) → word ≡ 1 → word ≢ 0
 one_left word is none = omega (arith, is, none)
 
 -- a page whose peer has retired
 left : (core : Core) (who : Role) (before : List PastEvent) → MayCome core → (side_of core who).turned ≡ false → (side_of core (peer who)).turned ≡ true → (side_of core (peer who)).trail ≡ before ++ retiring (peer who) → PeerHasLeft core who
-left core Server before may honest given is = one_left _ ((tells_all core Client may given honest).woken before is)
-left core Client before may honest given is = one_left _ ((tells_all core Server may given honest).woken before is)
+left core Server before may honest given is = one_left _ ((tells_all core Server may honest given).woken before is)
+left core Client before may honest given is = one_left _ ((tells_all core Client may honest given).woken before is)
 
 -- what a hostile domain owes of a page ends with that
 ends_so : (plan : HostilePlan) (place : PagePlace) (trail : List PastEvent) → IsTrail plan place trail → (before : List PastEvent) × (trail ≡ before ++ retiring (role_at plan.domain place))

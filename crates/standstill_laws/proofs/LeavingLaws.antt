@@ -12,7 +12,7 @@ use Rattle.domain_task.specs.Working.{DoesNothing}
 use Rattle.standstill_laws.specs.Counting.{TurnMade, AreMade, work_of_all}
 use Rattle.standstill_laws.specs.Idle.{RunPage, RunPages, ChannelFound}
 use Rattle.standstill_laws.specs.Stretches.{turns_of, IsFair}
-use Rattle.standstill_laws.specs.Leaving.{AgentStands, NoAgentLasts, LeavingIsShort, most_turns, WholeTurnsAreBounded, WholeRunsAreBounded}
+use Rattle.standstill_laws.specs.Leaving.{AgentStands, NoAgentLasts, LeavingIsShort, turns_at_most, WholeTurnsAreBounded, WholeRunsAreBounded}
 use Rattle.standstill_laws.specs.Work.{run_work}
 use Rattle.standstill_laws.specs.Mixed.{mixed_work, MixedRunsAreBounded}
 use Rattle.standstill_laws.proofs.PaceLaws.{peer_was_there}
@@ -84,7 +84,7 @@ some_round : (hub : Domains) (honest : ℕ → Bool) (round : ℕ) (turns : List
 some_round hub honest zero turns fair = let none = fair [] [] turns refl refl 0 (inl refl) in omega (arith, none)
 some_round hub honest (suc round) turns fair = omega arith
 
-more_turns : (round work most : ℕ) → work ≤ most → most_turns round work ≤ most_turns round most
+more_turns : (round work most : ℕ) → work ≤ most → turns_at_most round work ≤ turns_at_most round most
 more_turns round work most few = let more = mul-le (work + 1) (8 * round + 1) (most + 1) (8 * round + 1) (omega (arith, few)) (omega arith) in omega (arith, more)
 
 pub whole_turns_are_bounded_lem : WholeTurnsAreBounded

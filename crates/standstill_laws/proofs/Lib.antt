@@ -21,6 +21,7 @@ mod WeighingLaws
 mod PriceLaws
 mod TrafficLaws
 mod WorkLaws
+mod BesideLaws
 mod TakingLaws
 mod ActingLaws
 mod MixedLaws

@@ -18,23 +18,25 @@ use Rattle.ring_words.proofs.RingLaws.{size_within, ready_within, diff_counts}
 use Rattle.vchan_protocol.specs.declared.op.Op.{Op}
 use Rattle.vchan_protocol.specs.declared.op.Op.TheVariants.{Load, LoadByte, Store, StoreByte, Or, And, Swap, Nothing}
 use Rattle.vchan_protocol.specs.declared.op.PastEvent.{PastEvent}
+use Rattle.vchan_protocol.specs.declared.call.Call.{Call}
 use Rattle.vchan_protocol.specs.declared.side.Side.{Side}
 use Rattle.vchan_protocol.specs.Table.Plan.{Plan, answers, does, past, GoesOn, after}
 use Rattle.vchan_protocol.specs.Table.Ends.{Standing, prod_word, read_ring, read_order, low32, cons_after, cons_stored}
 use Rattle.vchan_protocol.specs.Table.Apply.{words_after, value_taken}
-use Rattle.vchan_protocol.specs.History.Core.{Core, side_of, event, plan_left, op_next, taken_next, plan_next, begun_standing, made, settled, side_after, got_after, got_stored, bytes_loaded}
+use Rattle.vchan_protocol.specs.History.Core.{Core, side_of, begun, event, plan_left, op_next, begun_standing, made, settled, side_after, got_after, got_stored, bytes_loaded}
 use Rattle.vchan_protocol.specs.History.TrailSummary.{TrailSummary, summary, summary_after, summary_loaded, summary_stored, empty_summary}
 use Rattle.vchan_protocol.specs.History.Peer.{peer}
-use Rattle.vchan_protocol.specs.Hostile.Turned.{turns, turned_side, strays}
-use Rattle.vchan_protocol.specs.Hostile.TurnedLaw.{KeepsCounts}
+use Rattle.vchan_protocol.specs.Hostile.Turned.{turns, turned_side, strays, strayed}
+use Rattle.vchan_protocol.specs.Hostile.TurnedLaw.{KeepsCounts, turned_core}
 use Rattle.vchan_protocol.specs.Honest.RingLaw.{IsLawful, word_at, channel_between, index_at, got_before}
-use Rattle.vchan_protocol.specs.Always.Invariant.{MayCome, Invariant, opens, begins_call, makes_event, is_turned, strays as strays_by}
+use Rattle.vchan_protocol.specs.Always.Invariant.{MayCome}
 use Rattle.vchan_protocol.proofs.Table.Sound.{OwesSound, OwesStored, StoresCons, IsFlag}
 use Rattle.vchan_protocol.proofs.History.SummaryLaws.{summary_push, loaded_is}
 use Rattle.vchan_protocol.proofs.Honest.ChannelLaws.{shows_bytes}
 use Rattle.vchan_protocol.proofs.Honest.EndSteps.{InLawful, in_lawful, owes_now, not_yet}
-use Rattle.vchan_protocol.proofs.Hostile.TurnedSteps.{turned_side_honest, turned_side_given, turned_turned_side, stays_next}
+use Rattle.vchan_protocol.proofs.Hostile.TurnedSteps.{turned_side_honest, turned_side_given}
 use Rattle.vchan_protocol.proofs.Always.InvariantSteps.{each_has_invariant}
+use Rattle.standstill_laws.proofs.BesideLaws.{holds}
 use Rattle.standstill_laws.specs.Taking.{prod_of, shows_by, shows_of, most_taken}
 
 -- ---- the numbers of a ring
@@ -211,10 +213,6 @@ takes_stored order most prod got cons word role value e trail n order_is role_is
     go SrvLive Server (suc value) order_is role_is owes = w
     go _ _ value order_is role_is owes = w
 
--- no end is both turned and honest
-pub honest_or : {X : Type 0} (turned : Bool) → turned ≡ true → turned ≡ false → X
-honest_or turned given honest = absurd (false≢true (sym honest ∙ given))
-
 -- ---- an end and its peer
 
 -- an end on these words, in this role
@@ -350,59 +348,40 @@ takes_turned start orders words role mine theirs role_is lawful =
 
 -- ---- all that may happen
 
--- a peer that was turned, or is turned now
-takes_turning : (core : Core) (who : Role) → MayCome core → (side_of core who).turned ≡ false →
-    ((side_of core (peer who)).turned ≡ true → Takes core.orders core.words who (side_of core who) (side_of core (peer who))) →
-    Takes core.orders core.words who (side_of core who) (turned_side (side_of core (peer who)) (length (side_of core who).got))
-takes_turning core who may honest before = go who honest before (side_of core (peer who)).turned refl
-  where
-    h : Invariant core
-    h = each_has_invariant core may
+abbrev TakesAt : Core → Role → Type 0
+TakesAt core who = Takes core.orders core.words who (side_of core who) (side_of core (peer who))
 
-    go : (who : Role) → (side_of core who).turned ≡ false → ((side_of core (peer who)).turned ≡ true → Takes core.orders core.words who (side_of core who) (side_of core (peer who))) →
-        (given : Bool) → (side_of core (peer who)).turned ≡ given → Takes core.orders core.words who (side_of core who) (turned_side (side_of core (peer who)) (length (side_of core who).got))
-    go Server honest before true is =
-        subst (λ (s : Side). Takes core.orders core.words Server core.server s) (sym (turned_side_given core.client (length core.server.got) is)) (before is)
-    go Client honest before true is =
-        subst (λ (s : Side). Takes core.orders core.words Client core.client s) (sym (turned_side_given core.server (length core.client.got) is)) (before is)
-    go Server honest before false is =
-        subst (λ (s : Side). Takes core.orders core.words Server core.server s) (sym (turned_side_honest core.client (length core.server.got) is))
-        (takes_turned core.start core.orders core.words Server core.server core.client h.turned.server_end.role_is (h.lawful (honest, is)).left.lawful)
-    go Client honest before false is =
-        subst (λ (s : Side). Takes core.orders core.words Client core.client s) (sym (turned_side_honest core.server (length core.client.got) is))
-        (takes_turned core.start core.orders core.words Client core.client core.server h.turned.client_end.role_is (h.lawful (is, honest)).right.lawful)
+turned_now : (core : Core) (who : Role) → MayCome core → (side_of core who).turned ≡ false → (side_of core (peer who)).turned ≡ false → TakesAt (turned_core core (peer who)) who
+turned_now core Server may honest fair =
+    let h = each_has_invariant core may in
+    subst (λ (s : Side). Takes core.orders core.words Server core.server s) (sym (turned_side_honest core.client (length core.server.got) fair))
+    (takes_turned core.start core.orders core.words Server core.server core.client h.turned.server_end.role_is (h.lawful (honest, fair)).left.lawful)
+turned_now core Client may honest fair =
+    let h = each_has_invariant core may in
+    subst (λ (s : Side). Takes core.orders core.words Client core.client s) (sym (turned_side_honest core.server (length core.client.got) fair))
+    (takes_turned core.start core.orders core.words Client core.client core.server h.turned.client_end.role_is (h.lawful (fair, honest)).right.lawful)
 
-each_takes : (core : Core) (who : Role) → MayCome core → (side_of core who).turned ≡ false → (side_of core (peer who)).turned ≡ true → Takes core.orders core.words who (side_of core who) (side_of core (peer who))
+begun_now : (core : Core) (who : Role) (call : Call) (payload : List ℕ) → TakesAt core who → TakesAt (begun core who call payload) who
+begun_now core Server call payload w = takes_begun _ _ _ _ _ _ w
+begun_now core Client call payload w = takes_begun _ _ _ _ _ _ w
+
+event_now : (core : Core) (who : Role) → MayCome core → (side_of core who).turned ≡ false → GoesOn (plan_left (side_of core who)) → TakesAt core who → TakesAt (event core who) who
 unfolding event
-each_takes core Server (opens orders start said state below left right fresh) honest given = absurd (false≢true given)
-each_takes core Client (opens orders start said state below left right fresh) honest given = absurd (false≢true given)
-each_takes core Server (begins_call before Server call payload there was may) honest given = takes_begun _ _ _ _ _ _ (each_takes before Server there was given)
-each_takes core Client (begins_call before Client call payload there was may) honest given = takes_begun _ _ _ _ _ _ (each_takes before Client there was given)
-each_takes core Server (begins_call before Client call payload there was may) honest given = honest_or _ given was
-each_takes core Client (begins_call before Server call payload there was may) honest given = honest_or _ given was
-each_takes core Server (makes_event before Server there was more) honest given =
-    let h = (each_has_invariant before there).turned in
-    takes_event before.start before.orders before.words Server before.server before.client h.server_end.role_is h.server_end.orders_are (h.server was) more (each_takes before Server there was given)
-each_takes core Client (makes_event before Client there was more) honest given =
-    let h = (each_has_invariant before there).turned in
-    takes_event before.start before.orders before.words Client before.client before.server h.client_end.role_is h.client_end.orders_are (h.client was) more (each_takes before Client there was given)
-each_takes core Server (makes_event before Client there was more) honest given =
-    honest_or _ given ((stays_next before.client (op_next before.client) (taken_next before Client) (plan_next before Client)).turned ∙ was)
-each_takes core Client (makes_event before Server there was more) honest given =
-    honest_or _ given ((stays_next before.server (op_next before.server) (taken_next before Server) (plan_next before Server)).turned ∙ was)
-each_takes core Server (is_turned before Server there) honest given = honest_or _ (turned_turned_side before.server (length before.client.got)) honest
-each_takes core Client (is_turned before Client there) honest given = honest_or _ (turned_turned_side before.client (length before.server.got)) honest
-each_takes core Server (is_turned before Client there) honest given = takes_turning before Server there honest (λ was. each_takes before Server there honest was)
-each_takes core Client (is_turned before Server there) honest given = takes_turning before Client there honest (λ was. each_takes before Client there honest was)
-each_takes core Server (strays_by before Server op there) honest given = honest_or _ (turned_turned_side before.server (length before.client.got)) honest
-each_takes core Client (strays_by before Client op there) honest given = honest_or _ (turned_turned_side before.client (length before.server.got)) honest
-each_takes core Server (strays_by before Client op there) honest given =
-    takes_stray before.orders before.words [] Server before.server (turned_side before.client (length before.server.got)) op (value_taken before.orders before.words op)
-    (takes_turning before Server there honest (λ was. each_takes before Server there honest was))
-each_takes core Client (strays_by before Server op there) honest given =
-    takes_stray before.orders before.words [] Client before.client (turned_side before.server (length before.client.got)) op (value_taken before.orders before.words op)
-    (takes_turning before Client there honest (λ was. each_takes before Client there honest was))
+event_now core Server may honest more w =
+    let h = (each_has_invariant core may).turned in
+    takes_event core.start core.orders core.words Server core.server core.client h.server_end.role_is h.server_end.orders_are (h.server honest) more w
+event_now core Client may honest more w =
+    let h = (each_has_invariant core may).turned in
+    takes_event core.start core.orders core.words Client core.client core.server h.client_end.role_is h.client_end.orders_are (h.client honest) more w
+
+stray_now : (core : Core) (who : Role) (op : Op) → MayCome core → (side_of core (peer who)).turned ≡ true → TakesAt core who → TakesAt (strayed core (peer who) op) who
+stray_now core Server op may given w =
+    takes_stray core.orders core.words [] Server core.server (turned_side core.client (length core.server.got)) op (value_taken core.orders core.words op)
+    (subst (λ (s : Side). Takes core.orders core.words Server core.server s) (sym (turned_side_given core.client (length core.server.got) given)) w)
+stray_now core Client op may given w =
+    takes_stray core.orders core.words [] Client core.client (turned_side core.server (length core.client.got)) op (value_taken core.orders core.words op)
+    (subst (λ (s : Side). Takes core.orders core.words Client core.client s) (sym (turned_side_given core.server (length core.client.got) given)) w)
 
 pub taken_is_bounded_lem : (core : Core) (who : Role) → MayCome core → (side_of core who).turned ≡ false → (side_of core (peer who)).turned ≡ true →
     length (side_of core who).got ≤ most_taken (read_ring who) (size (order_of core.orders (read_ring who))) (side_of core (peer who))
-taken_is_bounded_lem core who may honest given = omega (arith, (each_takes core who may honest given).now)
+taken_is_bounded_lem core who may honest given = omega (arith, (holds TakesAt (record { turns_peer = turned_now; begins = begun_now; makes = event_now; is_poked = stray_now }) core who may honest given).now)

@@ -62,7 +62,7 @@ use Rattle.broker_task.specs.Lines.{BrokerEnd, heard_by}
 use Rattle.broker_task.specs.Standing.{IsAttended}
 use Rattle.standstill_laws.specs.Traffic.{HasSpoken, AgentsSpeak, IsControlPage, messages_across, ControlMessagesAreFew, call_bytes, ControlBytesAreFew}
 use Rattle.standstill_laws.specs.Acting.{all_shows}
-use Rattle.standstill_laws.specs.Mixed.{IsTurnedOver, most_got, IsHostileControl, most_heard, honest_bytes, hostile_bytes, ControlBytesAreBounded}
+use Rattle.standstill_laws.specs.Mixed.{HasHostilePeer, most_got, IsHostileControl, most_heard, honest_bytes, hostile_bytes, ControlBytesAreBounded}
 use Rattle.standstill_laws.proofs.ActingLaws.{taken_from_domains_lem}
 use Rattle.standstill_laws.proofs.ControlLaws.{all_good}
 use Rattle.standstill_laws.specs.Bounds.{AgentsSayFew}
@@ -285,7 +285,7 @@ answered_little name bytes (Trigger target ident service) spelled =
 answered_little name bytes _ spelled = omega arith
 
 -- an honest end gets no more of a page that was turned over than the acts of the domain let through
-pub got_little : (plan : HostilePlan) (at : PagePlace) (core : Core) (who : Role) → IsTurnedOver plan at core who → length (side_of core who).got ≤ most_got plan at
+pub got_little : (plan : HostilePlan) (at : PagePlace) (core : Core) (who : Role) → HasHostilePeer plan at core who → length (side_of core who).got ≤ most_got plan at
 got_little plan at core who over =
     let ring : Ring = read_ring who in
     let taken = taken_from_domains_lem core who plan at over.may over.honest over.turned over.acts in

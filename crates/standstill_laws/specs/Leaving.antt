@@ -59,14 +59,14 @@ pub record IsFairRun (hub : Domains) (honest : ℕ → Bool) (round : ℕ) (firs
   pub stands_after : AgentsStandThroughout hub afterwards
 
 -- they are fewer than this, by what all tasks have done in the end: a stretch, and one for each thing done, and another before the broker's end
-abbrev pub most_turns : (round work : ℕ) → ℕ
-most_turns round work = (work + 1) * (8 * round + 1) + 8 * round
+abbrev pub turns_at_most : (round work : ℕ) → ℕ
+turns_at_most round work = (work + 1) * (8 * round + 1) + 8 * round
 
 abbrev pub WholeTurnsAreBounded : Type 0
 WholeTurnsAreBounded = (hub : Domains) (honest : ℕ → Bool) (round : ℕ) (first mid last : ℕ → Task) (during afterwards : List TurnMade) → IsFairRun hub honest round first mid last during afterwards
-    → length during + length afterwards < most_turns round (work_of_all (count_of hub + 1) last)
+    → length during + length afterwards < turns_at_most round (work_of_all (count_of hub + 1) last)
 
 -- and of a run between honest domains, by what all its tasks have done at most
 abbrev pub WholeRunsAreBounded : Type 0
 WholeRunsAreBounded = (hub : Domains) (honest : ℕ → Bool) (round : ℕ) (first mid last : ℕ → Task) (during afterwards : List TurnMade) (broker : BrokerState) (agents : ℕ → AgentState) → IsFairRun hub honest round first mid last during afterwards
-    → IsHonestRun hub last broker agents → length during + length afterwards < most_turns round (run_work hub agents)
+    → IsHonestRun hub last broker agents → length during + length afterwards < turns_at_most round (run_work hub agents)

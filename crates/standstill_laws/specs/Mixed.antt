@@ -43,12 +43,12 @@ use Rattle.standstill_laws.specs.Counting.{TurnMade, work_of_all}
 use Rattle.standstill_laws.specs.Taking.{shows_of}
 use Rattle.standstill_laws.specs.Traffic.{sum_below, IsControlPage, call_bytes}
 use Rattle.standstill_laws.specs.Work.{DataPage, both_sessions, IsOfEnd, IsDataPage, all_below, call_work}
-use Rattle.standstill_laws.specs.Leaving.{IsFairRun, most_turns}
+use Rattle.standstill_laws.specs.Leaving.{IsFairRun, turns_at_most}
 
 -- ---- a page of a hostile domain
 
 -- this end of the page at this place is honest, and the other one was turned over to the hostile domain of this plan
-pub record IsTurnedOver (plan : HostilePlan) (at : PagePlace) (core : Core) (who : Role) : Type 0 where
+pub record HasHostilePeer (plan : HostilePlan) (at : PagePlace) (core : Core) (who : Role) : Type 0 where
   -- the page has come about by calls of honest ends and by whatever hostile users do, as the rule of its table has it
   pub may : MayCome core
   pub honest : (side_of core who).turned ≡ false
@@ -67,7 +67,7 @@ most_got plan at = all_shows at plan.acts * (size (orders_at plan at).left + siz
 
 -- the control page of the hostile domain behind this place. The broker, which has these ends, has the client's
 pub record IsHostileControl (ends : List BrokerEnd) (place : ℕ) (plan : HostilePlan) (core : Core) : Type 0 where
-  pub over : IsTurnedOver plan (Control plan.domain) core Client
+  pub over : HasHostilePeer plan (Control plan.domain) core Client
   -- what the broker's task says of its ends after each turn, and once it is done, it says of this one (`Stands`)
   pub end : BrokerEnd
   pub there : IsAt ends place end
@@ -121,7 +121,7 @@ SendsAsItMay (Some call) side = (own : ℕ) × CallerMaySend own chunk call.stdi
 SendsAsItMay None side = (own : ℕ) × (service : Builtin) × ServingMaySend own chunk (builtin_owes service) side.got side.sent
 
 pub record IsHostilePage (plan : HostilePlan) (p : HostilePage) : Type 0 where
-  pub over : IsTurnedOver plan p.at p.core (role_with p.call)
+  pub over : HasHostilePeer plan p.at p.core (role_with p.call)
   pub sends : SendsAsItMay p.call (honest_end p)
   pub end : IsOfEnd p.session (honest_end p)
 
@@ -181,7 +181,7 @@ MixedWorkIsBounded = (hub : Domains) (honest : ℕ → Bool) (tasks : ℕ → Ta
 -- and so many turns after which a task goes on does such a run make
 abbrev pub MixedRunsAreBounded : Type 0
 MixedRunsAreBounded = (hub : Domains) (honest : ℕ → Bool) (round : ℕ) (first mid last : ℕ → Task) (during afterwards : List TurnMade) (broker : BrokerState) (agents : ℕ → AgentState) (hostiles : ℕ → HostileState)
-    → IsFairRun hub honest round first mid last during afterwards → IsMixedRun hub honest last broker agents hostiles → length during + length afterwards < most_turns round (mixed_work hub honest agents hostiles)
+    → IsFairRun hub honest round first mid last during afterwards → IsMixedRun hub honest last broker agents hostiles → length during + length afterwards < turns_at_most round (mixed_work hub honest agents hostiles)
 
 -- ---- there are such runs
 
