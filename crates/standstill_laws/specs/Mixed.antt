@@ -87,7 +87,7 @@ AreAllControlPages count honest ends plans hostiles pages =
 abbrev pub honest_bytes : Bool → Core → ℕ
 honest_bytes honest core = (if honest then length core.server.sent else 0) + length core.client.sent
 
--- The broker greets a hostile domain in 12 bytes. Each byte that it gets of the domain leads to at most two more and as many as the domain's name has: a trigger takes 105 bytes or more and those of the service, and leads to a Connect of 48,
+-- The broker greets a hostile domain in 12 bytes. Each byte that it gets of the domain leads to at most two more and as many as the domain's name has: a trigger takes 105 bytes and those of the service, or 136 with a service of at most 63, and leads to a Connect of 48,
 -- an Exec of 35 with the service and the name, and the report of the session's end in 16.
 abbrev pub hostile_bytes : List ℕ → ℕ → ℕ
 hostile_bytes name heard = 12 + (2 + length name) * heard
