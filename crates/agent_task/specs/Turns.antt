@@ -8,9 +8,9 @@ use Rattle.agent_task.specs.Owing.{report_of}
 use Rattle.agent_task.specs.Telling.{TellsAll}
 use Rattle.agent_task.specs.Moving.{TurnsChannel, KeepsChannel}
 use Rattle.agent_task.specs.State.{AgentState, task_given, TellsSoFar, TurnsEach}
-use Rattle.task_duties.specs.declared.turn.TaskTurn.{TaskTurn}
+use Rattle.task_duties.specs.declared.ends.TaskTurn.{TaskTurn}
 use Rattle.agent_task.specs.declared.task.AgentDone.{AgentDone}
-use Rattle.task_duties.specs.declared.turn.TaskTurn.TheVariants as turn
+use Rattle.task_duties.specs.declared.ends.TaskTurn.TheVariants as turn
 
 -- a task that goes on owes what it owed, and a task that is done, or that memory ran out for, gives that
 abbrev pub Pays : TaskGiven → TaskTurn AgentState AgentDone → Type 0

@@ -25,9 +25,9 @@ use Rattle.task_duties.proofs.Elements.{each_at, has_from}
 use Rattle.broker_task.specs.declared.outbox.Letter.{Letter}
 use Rattle.broker_task.specs.declared.daemon.Daemon.{Daemon}
 use Rattle.broker_task.specs.declared.switchboard.Switchboard.{Switchboard}
-use Rattle.task_duties.specs.declared.turn.TaskTurn.{TaskTurn}
+use Rattle.task_duties.specs.declared.ends.TaskTurn.{TaskTurn}
 use Rattle.broker_task.specs.declared.task.BrokerDone.{BrokerDone}
-use Rattle.task_duties.specs.declared.turn.TaskTurn.TheVariants as turn
+use Rattle.task_duties.specs.declared.ends.TaskTurn.TheVariants as turn
 use Rattle.broker_task.specs.Letters.{IsAt, messages_in}
 use Rattle.broker_task.specs.Lines.{end_of, BrokerEnd, is_gone, first_view, MayDrop, IsLine, events_got}
 use Rattle.broker_task.specs.Posting.{EachAt, EachMoves, MayGo, HasPosted}

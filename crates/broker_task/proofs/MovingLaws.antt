@@ -17,9 +17,9 @@ use Rattle.std.specs.List.{AllZip as EachPair}
 use Rattle.list_laws.proofs.Tests.{same_number}
 use Rattle.broker_task.specs.declared.switchboard.Switchboard.{Switchboard}
 use Rattle.broker_task.specs.Given.{BrokerState}
-use Rattle.task_duties.specs.declared.turn.TaskTurn.{TaskTurn}
+use Rattle.task_duties.specs.declared.ends.TaskTurn.{TaskTurn}
 use Rattle.broker_task.specs.declared.task.BrokerDone.{BrokerDone}
-use Rattle.task_duties.specs.declared.turn.TaskTurn.TheVariants as turn
+use Rattle.task_duties.specs.declared.ends.TaskTurn.TheVariants as turn
 use Rattle.broker_task.specs.Turns.{TurnsEach, KeepsLines}
 use Rattle.vchan_protocol.specs.declared.call.EndState.{EndState}
 use Rattle.vchan_protocol.specs.declared.call.EndState.TheVariants.{Fresh, Open, Shut}

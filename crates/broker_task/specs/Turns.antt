@@ -5,9 +5,9 @@ use Rattle.task_duties.specs.TaskOwes.{TaskGiven, TaskOwes, NoMemory}
 use Rattle.task_duties.specs.TaskOwes as duty
 use Rattle.task_duties.specs.GivenEnds.{all_retired}
 use Rattle.broker_task.specs.declared.switchboard.Switchboard.{Switchboard}
-use Rattle.task_duties.specs.declared.turn.TaskTurn.{TaskTurn}
+use Rattle.task_duties.specs.declared.ends.TaskTurn.{TaskTurn}
 use Rattle.broker_task.specs.declared.task.BrokerDone.{BrokerDone}
-use Rattle.task_duties.specs.declared.turn.TaskTurn.TheVariants as turn
+use Rattle.task_duties.specs.declared.ends.TaskTurn.TheVariants as turn
 use Rattle.broker_task.specs.Given.{BrokerState, task_given, retired_end, IsRetiredOf}
 use Rattle.broker_task.specs.Moving.{BrokerLine, line_of, HasTurned}
 use Rattle.broker_task.specs.Holding.{HoldsForExecs, NoneIsLost, ShutAreDropped}

@@ -2,7 +2,7 @@
 -- Source: this project's own.
 use Rattle.task_pool.specs.declared.task.Turn.{Turn}
 use Rattle.task_pool.specs.declared.task.Turn.TheVariants as turn
-use Rattle.task_duties.specs.declared.turn.TaskTurn.TheVariants as own
+use Rattle.task_duties.specs.declared.ends.TaskTurn.TheVariants as own
 use Rattle.agent_task.specs.State.{AgentState}
 use Rattle.agent_task.specs.Turns.{Tells, GoesOn}
 use Rattle.broker_task.specs.Given.{BrokerState}

@@ -30,9 +30,9 @@ use Rattle.hostile_task.specs.declared.domain.HostileDomain.{HostileDomain}
 use Rattle.hostile_task.specs.declared.page.TurnedPage.{TurnedPage}
 use Rattle.hostile_task.specs.declared.pages.Pages.{Pages}
 use Rattle.hostile_task.specs.declared.progress.Progress.{Progress}
-use Rattle.task_duties.specs.declared.turn.TaskTurn.{TaskTurn}
+use Rattle.task_duties.specs.declared.ends.TaskTurn.{TaskTurn}
 use Rattle.hostile_task.specs.declared.task.HostileDone.{HostileDone}
-use Rattle.task_duties.specs.declared.turn.TaskTurn.TheVariants as turn
+use Rattle.task_duties.specs.declared.ends.TaskTurn.TheVariants as turn
 use Rattle.hostile_task.specs.Plan.{HostileState, plan_of, AreApart}
 use Rattle.hostile_task.specs.Pages.{AreSamePages, IsRetiredOf, given_in, given_of, places_in}
 use Rattle.hostile_task.specs.UnderWay.{IsTrailSoFar, IsPart, words_at, ActsDone, IsPageSoFar, IsUnderWay}

@@ -5,9 +5,9 @@ use Rattle.std.specs.List.{AllZip as EachPair}
 use Rattle.hostile_task.specs.Pages.{IsRetiredOf}
 use Rattle.hostile_task.specs.declared.pages.Pages.{Pages}
 use Rattle.hostile_task.specs.Plan.{HostileState}
-use Rattle.task_duties.specs.declared.turn.TaskTurn.{TaskTurn}
+use Rattle.task_duties.specs.declared.ends.TaskTurn.{TaskTurn}
 use Rattle.hostile_task.specs.declared.task.HostileDone.{HostileDone}
-use Rattle.task_duties.specs.declared.turn.TaskTurn.TheVariants as turn
+use Rattle.task_duties.specs.declared.ends.TaskTurn.TheVariants as turn
 
 -- it gives its number and all ends in their order
 abbrev pub Finishes : ℕ → Pages → TaskTurn HostileState HostileDone → Type 0

@@ -11,9 +11,9 @@ use Rattle.task_duties.specs.Hostile.Trail.{words_of}
 use Rattle.hostile_task.specs.Plan.{HostileState}
 use Rattle.hostile_task.specs.UnderWay.{IsTrailSoFar, most_turns}
 use Rattle.hostile_task.specs.declared.progress.Progress.{Progress}
-use Rattle.task_duties.specs.declared.turn.TaskTurn.{TaskTurn}
+use Rattle.task_duties.specs.declared.ends.TaskTurn.{TaskTurn}
 use Rattle.hostile_task.specs.declared.task.HostileDone.{HostileDone}
-use Rattle.task_duties.specs.declared.turn.TaskTurn.TheVariants as turn
+use Rattle.task_duties.specs.declared.ends.TaskTurn.TheVariants as turn
 
 -- ---- how many turns are left
 

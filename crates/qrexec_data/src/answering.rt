@@ -9,9 +9,8 @@ ghost use Rattle.qrexec_hello.specs.Greeting.{greeting};
 ghost use Rattle.qrexec_data.specs.Reading.{IsByBytes};
 ghost use Rattle.qrexec_data.specs.Answering.{AnswersTo, FeedsOn, EndsOn, after_greeting, faulted, packed_next, packed_on, end_bytes, over_if, after_gone};
 
-use crate::limit::most;
 use crate::outcome::{Outcome, SessionFault};
-use crate::unsent::Unsent;
+use crate::unsent::{Unsent, most};
 use qrexec_frame::{Body, Kind};
 use qrexec_hello::Hello;
 use service_gate::Service;

@@ -4,7 +4,7 @@ ghost use Rattle.qrexec_frame.specs.declared.kind.Channel.TheVariants.{Data};
 ghost use Rattle.qrexec_frame.specs.Bodies.{StandsAtFront};
 ghost use Rattle.qrexec_data.specs.Reading.{unread};
 
-use crate::limit::SHORT_CALL;
+use crate::unsent::SHORT_CALL;
 use qrexec_frame::{Body, Channel, FrameFault};
 use std::alloc::Global;
 use std::marker::Model;

@@ -10,7 +10,6 @@ mod answering;
 mod caller;
 mod inbox;
 pub mod laws;
-mod limit;
 mod outcome;
 mod replies;
 mod requests;

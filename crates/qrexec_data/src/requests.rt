@@ -5,8 +5,7 @@ ghost use Rattle.qrexec_frame.specs.Messages.{written};
 ghost use Rattle.qrexec_data.specs.Requests.{packed_next, packed_on};
 ghost use Rattle.qrexec_data.specs.Sending.{most};
 
-use crate::limit::most;
-use crate::unsent::Unsent;
+use crate::unsent::{Unsent, most};
 use qrexec_frame::Kind;
 use std::alloc::Global;
 use std::marker::Model;

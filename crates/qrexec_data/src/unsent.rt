@@ -1,16 +1,29 @@
-//! The bytes that a side of a call sends.
+//! The bytes that a side of a call sends, and how many a message and a list of them have.
 ghost use Rattle.std.specs.Prelude.{◌≡◌, ◌≤◌, ◌++◌, ◌==◌, [], length, drop, OnOk, OnErr};
+ghost use Rattle.qrexec_data.specs.Sending.{most};
 ghost use Rattle.qrexec_frame.specs.Kinds.{IsData};
 ghost use Rattle.qrexec_frame.specs.Fronts.{made};
 ghost use Rattle.qrexec_frame.specs.Messages.{Fits, written};
 ghost use Rattle.qrexec_frame.specs.declared.message.Message.TheVariants as message;
 
-use crate::limit::SHORT_CALL;
 use qrexec_frame::{Kind, Message, encode, encode_data};
 use qrexec_hello::Hello;
 use std::alloc::Global;
 use std::marker::Model;
 use vchan_io::Memory;
+
+/// The number of bytes that one side sends in a call whose streams have some 80 bytes. A list of
+/// bytes has room for them at first, since workers that grow lists wait for one another at the
+/// allocator. The number is this project's own.
+pub(crate) const SHORT_CALL: usize = 128;
+
+/// Returns the greatest number of bytes that one message of a stream carries in a version: 4,096
+/// below version 3, and 65,536 from it on.
+pub(crate) fn most(version: u32) -> usize
+    ensures { result ≡ most version }
+{
+    if version < 3 { 4_096 } else { 65_536 }
+}
 
 /// Messages that wait to go, in their written spelling. Contracts see the bytes that haven't gone
 /// yet.

@@ -7,16 +7,12 @@
 
 mod byte_string;
 mod digits;
-mod generator;
 mod lines;
 mod number;
-mod place;
 pub mod text;
 mod words;
 
 pub use byte_string::{ByteError, PushError, bytes_of, push_bytes_of};
-pub use generator::next_number;
 pub use lines::{LineReader, MOST_LINES, NextLine, TooManyLines};
-pub use number::{is_number, parse_number};
-pub use place::place_in;
-pub use words::{WordsOfLine, cut_at, first_line};
+pub use number::{is_number, next_number, parse_number};
+pub use words::{WordsOfLine, cut_at, first_line, place_in};

@@ -1,6 +1,7 @@
-//! The decimal numbers of scripts.
+//! The decimal numbers of scripts, and the generator by which scenarios are made and pages scribbled on.
 ghost use Rattle.std.specs.Prelude.{◌≡◌, ◌+◌, ◌*◌, ◌≤◌, ◌^◌, MatchOption};
 ghost use Rattle.std.specs.Str.{all_ascii_digits};
+ghost use Rattle.script_words.specs.Generator.{next_number};
 ghost use Rattle.script_words.specs.Numbers.{is_number, number_of};
 
 /// Returns the number that a word spells, if it is at most `most`. The word is `0`, or decimal
@@ -51,4 +52,13 @@ fn are_digits(word: &[u8]) -> bool
         }
     }
     true
+}
+
+/// Returns the number after `x`: one step of the generator, 75 x + 74 modulo 65,537.
+pub fn next_number(x: u32) -> u32
+    requires { x ≤ 65536 }
+    ensures number { result ≡ next_number x }
+    ensures within { result ≤ 65536 }
+{
+    (75 * x + 74) % 65_537
 }

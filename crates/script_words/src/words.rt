@@ -1,6 +1,7 @@
-//! Cutting a script into lines, and a line into words.
+//! Cutting a script into lines, a line into words, and a word that names places.
 ghost use Rattle.std.specs.Prelude.{◌≡◌, ◌==◌, ◌<◌, ◌∷◌, [], length, false, position, MatchOption, IfNone, IfSome, option_copied};
 ghost use Rattle.std.specs.List.{list_any};
+ghost use Rattle.script_words.specs.Places.{place_in};
 ghost use Rattle.script_words.specs.Words.{lines_of, pieces};
 
 use memchr::memchr;
@@ -123,4 +124,12 @@ impl<'a> WordsOfLine<'a> {
             Some(_) => None,
         }
     }
+}
+
+/// Returns what names the places in a word of the form `NAME[K]`: what stands between this front of the word and a `]` at its end, or `None` if and only if the word
+/// lacks either. The front is `NAME[`.
+pub fn place_in<'a>(front: &[u8], word: &'a [u8]) -> Option<&'a [u8]>
+    ensures { option_copied result ≡ place_in front.now word.now }
+{
+    word.strip_prefix(front)?.strip_suffix(b"]")
 }

@@ -10,13 +10,11 @@ mod answer;
 mod append;
 mod boxed;
 mod builtin;
-mod gate;
 mod naming;
 mod service;
 
 pub use answer::{Answer, serve};
 pub use boxed::Boxed;
 pub use builtin::Builtin;
-pub use gate::{Gate, OpenGate};
 pub use naming::{every_service, services_by_name};
-pub use service::Service;
+pub use service::{Gate, OpenGate, Service};

@@ -1,4 +1,5 @@
-//! The contract of every service, and a run of one over the pieces of its input.
+//! What a caller of a run may write of its own: a service, and the gate that a worker passes before each turn of
+//! a task.
 ghost use Rattle.std.specs.Prelude.{ℕ, List, [], OnOk, OnErr, IfOk};
 ghost use Rattle.service_gate.specs.Triple.{Triple, Feeds, Ends, IsKept};
 
@@ -26,4 +27,19 @@ pub trait Service: Drop {
     fn end(&mut self, out: &mut Vec<u8>, err: &mut Vec<u8>) -> Result<i32, Memory>
         ensures ok { IfOk result (λ code. Ends (owes self.old []) code out.old.items out.new.items err.old.items err.new.items) }
         ensures no_memory { OnErr result (IsKept (owes self.old) (owes self.new) out.old.items out.new.items err.old.items err.new.items) };
+}
+
+/// What a worker of a pool calls before each turn. A test's gate may hold its caller for a given
+/// number of tries; no gate has a handle by which it could wait.
+pub trait Gate: Sync {
+    /// Tells that a worker is about to make a turn of the task at this place.
+    fn enter(&self, task: u32);
+}
+
+/// A gate that holds no worker.
+#[derive(Clone, Copy, Debug)]
+pub struct OpenGate;
+
+impl Gate for OpenGate {
+    fn enter(&self, _task: u32) {}
 }

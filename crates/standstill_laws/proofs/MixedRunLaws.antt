@@ -24,7 +24,7 @@ use Rattle.task_duties.specs.declared.place.PagePlace.TheVariants.{Control, Payl
 use Rattle.task_duties.specs.Hostile.Stores.{stored}
 use Rattle.task_duties.specs.Hostile.Trail.{first_voice}
 use Rattle.task_duties.specs.Agent.Answers.{Waits}
-use Rattle.task_duties.specs.declared.turn.TaskTurn.TheVariants.{Again}
+use Rattle.task_duties.specs.declared.ends.TaskTurn.TheVariants.{Again}
 use Rattle.agent_queue.specs.Queue.{Queued, asked_as, fresh}
 use Rattle.agent_slots.specs.Sessions.{NotBegun}
 use Rattle.agent_slots.specs.Agreeing.{places_free, SessionStands}

@@ -20,7 +20,7 @@ use Rattle.call_broker.specs.Domains.{Domains, count_of, name_of}
 use Rattle.scenario_file.specs.declared.scenario.CallPlan.{CallPlan}
 use Rattle.task_duties.specs.declared.place.PagePlace.{PagePlace}
 use Rattle.task_duties.specs.declared.place.PagePlace.TheVariants.{Control}
-use Rattle.task_duties.specs.declared.turn.TaskTurn.TheVariants.{Again}
+use Rattle.task_duties.specs.declared.ends.TaskTurn.TheVariants.{Again}
 use Rattle.task_duties.specs.Agent.Given.{AgentPlan}
 use Rattle.task_duties.specs.Agent.Sessions.{chunk}
 use Rattle.task_duties.specs.Hostile.Given.{HostilePlan}

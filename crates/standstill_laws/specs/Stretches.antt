@@ -10,7 +10,7 @@ use Rattle.qrexec_frame.specs.declared.message.Message.{Message}
 use Rattle.call_broker.specs.Domains.{Domains, count_of}
 use Rattle.call_broker.specs.Journal.{is_dropped}
 use Rattle.task_duties.specs.Broker.Owes.{awaited_of}
-use Rattle.task_duties.specs.declared.turn.TaskTurn.TheVariants as own
+use Rattle.task_duties.specs.declared.ends.TaskTurn.TheVariants as own
 use Rattle.control_port.specs.declared.talk.Talker.TheVariants.{Broker as OfBroker}
 use Rattle.agent_slots.specs.Sessions.{Session, is_open, session_at}
 use Rattle.agent_task.specs.State.{AgentState, TellsSoFar}

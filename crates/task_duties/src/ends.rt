@@ -1,4 +1,4 @@
-//! The ends that a task is given, and those that it gives back.
+//! The ends that a task is given, those that it gives back, and what a turn of it returns.
 use crate::place::PagePlace;
 use page_offer::{DoneClient, DoneServer, UnlaidClient, UnlaidServer};
 use vchan_rule::{End, Retired};
@@ -54,4 +54,18 @@ pub struct RetiredEnd {
     pub place: PagePlace,
     /// The end.
     pub retired: DoneEnd,
+}
+
+/// What a turn of a task returns.
+pub enum TaskTurn<T, D> {
+    /// The task wants another turn.
+    Again(T),
+    /// The task is done, and this is what it gives.
+    Done(D),
+    /// Memory ran out.
+    NoMemory {
+        /// The ends, all of them retired, in the order in which they were given: a domain's with the end of its
+        /// control page first, the broker's in the order of the domains.
+        ends: Vec<RetiredEnd>,
+    },
 }

@@ -12,9 +12,7 @@ mod done;
 mod ends;
 pub mod laws;
 mod place;
-mod turn;
 
 pub use done::{CallDone, CallEnd, CallerDone, ControlEnd, ServedDone, SessionEnd};
-pub use ends::{DataEnd, DoneEnd, RetiredEnd, UnmadeEnds, UnusedEnd};
+pub use ends::{DataEnd, DoneEnd, RetiredEnd, TaskTurn, UnmadeEnds, UnusedEnd};
 pub use place::PagePlace;
-pub use turn::TaskTurn;

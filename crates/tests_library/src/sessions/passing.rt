@@ -1,5 +1,5 @@
 //! Calls passed between both sides.
-use crate::sessions::sides::{HELLO, builtin, bytes_of, caller, count_of, serving};
+use crate::sessions::{HELLO, builtin, bytes_of, caller, count_of, serving};
 use qrexec_data::{Caller, Outcome, Serving};
 use service_gate::Service;
 use std::alloc::Global;

@@ -1,5 +1,5 @@
 //! What one side sends, and when it is over.
-use crate::sessions::sides::{
+use crate::sessions::{
     HELLO, answered, builtin, bytes_of, caller, caller_sends, lines_of, serving,
 };
 use qrexec_data::{Caller, Outcome, Serving};

@@ -2,7 +2,7 @@
 ghost use Rattle.std.specs.Prelude.{[], pos};
 
 use crate::services::Greeting;
-use crate::sessions::sides::{HELLO, answered, bytes_of, serving};
+use crate::sessions::{HELLO, answered, bytes_of, serving};
 use qrexec_data::Serving;
 use service_gate::{Boxed, Service};
 use std::alloc::Global;

@@ -1,5 +1,5 @@
 //! Streams of bytes from outside, and how the side that takes them comes out.
-use crate::sessions::sides::{HELLO, builtin, bytes_of, caller, serving};
+use crate::sessions::{HELLO, builtin, bytes_of, caller, serving};
 use qrexec_data::{Caller, Outcome, Serving};
 use service_gate::Service;
 use std::alloc::Global;

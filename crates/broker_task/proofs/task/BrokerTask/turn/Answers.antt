@@ -1,7 +1,7 @@
 use Rattle.std.proofs.Common.{◌∙◌, ap, subst}
 use Rattle.task_duties.specs.TaskOwes.{TaskGiven}
 use Rattle.broker_task.specs.Given.{task_given}
-use Rattle.task_duties.specs.declared.turn.TaskTurn.TheVariants as turn
+use Rattle.task_duties.specs.declared.ends.TaskTurn.TheVariants as turn
 use Rattle.broker_task.specs.Turns.{Pays}
 use Rattle.broker_task.proofs.KeepingSteps.{given_back}
 use Rattle.broker_task.proofs.DoneLaws.{given_on, idle_list}

@@ -2,7 +2,7 @@
 use Rattle.std.proofs.Common.{List, length, subst, ap, ◌∙◌}
 use Rattle.scenario_file.specs.declared.acts.Act.{Act}
 use Rattle.hostile_task.specs.Plan.{HostileState}
-use Rattle.task_duties.specs.declared.turn.TaskTurn.TheVariants as turn
+use Rattle.task_duties.specs.declared.ends.TaskTurn.TheVariants as turn
 use Rattle.hostile_task.specs.Turns.{GoesOn, Pays}
 use Rattle.hostile_task.proofs.DoneLaws.{back_pays, done_pays}
 use Rattle.hostile_task.proofs.TurnLaws.{goes_on, state_of}
