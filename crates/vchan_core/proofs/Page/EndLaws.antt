@@ -9,10 +9,8 @@ use Rattle.vchan_core.specs.declared.plain.Plain.{Plain}
 use Rattle.vchan_core.specs.Page.Ends.{end_of, other_end, with_end}
 use Rattle.vchan_core.specs.declared.phase.Next.{Next}
 use Rattle.vchan_core.specs.declared.phase.Phase.{Phase}
-use Rattle.vchan_core.specs.OneMachine.Phases.{standing}
 use Rattle.vchan_core.specs.Page.StandsFor.{HasPayload, StandsFor, machine_of, moved_of, orders_of, turned_of, words_of}
 use Rattle.vchan_core.specs.WholeCall.AtPhase.{page_at, page_to}
-use Rattle.vchan_core.specs.WholeCall.Beside.{IsBeside}
 use Rattle.vchan_protocol.specs.declared.call.Answer.{Answer}
 use Rattle.vchan_protocol.specs.History.Core.{Core, event, side_of}
 use Rattle.vchan_core.proofs.Page.StepLaws.{DoesAt, DoesEvent, stands_at, stands_on}
@@ -66,17 +64,6 @@ pub in_place : (who : Role) (ends ends' : Ends) (e : End) → ends' ≡ with_end
 in_place who ends ends' e is = record {
   at = ap (λ (x : Ends). end_of x who) is ∙ with_end_at ends who e;
   other = ap (λ (x : Ends). other_end x who) is ∙ with_end_other ends who e;
-}
-
--- an end of which only the place inside its call has changed
-pub beside_with : (who : Role) (page page' : Plain) (e : End) → IsInPlace who page.ends page'.ends e → orders_of page' ≡ orders_of page → standing e.machine ≡ standing (machine_of page who) → e.moved ≡ moved_of page who → e.turned ≡ turned_of page who →
-    IsBeside who page page'
-beside_with who page page' e is orders same moved turned = record {
-  same = ap (λ (x : End). standing x.machine) is.at ∙ same;
-  orders = orders;
-  moved = ap (λ (x : End). x.moved) is.at ∙ moved;
-  turned = ap (λ (x : End). x.turned) is.at ∙ turned;
-  other = is.other;
 }
 
 -- an event of an end, which takes the place of the end that was
