@@ -10,7 +10,7 @@ use Rattle.vchan_protocol.specs.declared.call.EndState.TheVariants.{Fresh, Open,
 use Rattle.vchan_protocol.specs.declared.side.Side.{Side}
 use Rattle.vchan_protocol.specs.History.Core.{Core, side_of}
 use Rattle.vchan_protocol.specs.Honest.Lawful.{Lawful}
-use Rattle.vchan_protocol.proofs.Honest.LifeSteps.{gone_tells_retired}
+use Rattle.vchan_protocol.proofs.Honest.GoneWords.{gone_tells_retired}
 use Rattle.vchan_rule.specs.Seated.{view}
 use Rattle.agent_slots.specs.Sessions.{Session, NotBegun, CallsWith, AwaitsPage, ServesWith, EndedWith, session_at, got_in, sent_in}
 use Rattle.agent_control.specs.declared.control.AgentControl.{AgentControl}

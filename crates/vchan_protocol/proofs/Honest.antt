@@ -4,5 +4,8 @@ pub mod EndSteps
 pub mod RingSteps
 pub mod LifeTrails
 pub mod LifeWords
+pub mod LifeSides
+pub mod LifeOwed
 pub mod LifeSteps
+pub mod GoneWords
 pub mod LawfulSteps

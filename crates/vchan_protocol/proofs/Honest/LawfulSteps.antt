@@ -24,7 +24,8 @@ use Rattle.vchan_protocol.specs.Honest.Reached.{MayBegin}
 use Rattle.vchan_protocol.proofs.Honest.ChannelLaws.{lawful_begin_write, lawful_begin_read}
 use Rattle.vchan_protocol.proofs.Honest.EndSteps.{in_lawful, owes_now, counts_now, call_begins, call_goes_on, puts_within, takes_within}
 use Rattle.vchan_protocol.proofs.Honest.RingSteps.{wrote_made, read_made}
-use Rattle.vchan_protocol.proofs.Honest.LifeSteps.{life_opened, life_begun, life_event}
+use Rattle.vchan_protocol.proofs.Honest.LifeSides.{life_opened, life_begun}
+use Rattle.vchan_protocol.proofs.Honest.LifeSteps.{life_event}
 
 -- ---- the parts of a lawful page
 

@@ -1,11 +1,9 @@
--- The laws on lives: the opening has them, and a begin and each event of an honest end keep them.
-use Rattle.std.proofs.Common.{◌≡◌, ◌≢◌, ℕ, ◌+◌, ◌-◌, ◌^◌, ◌<◌, ◌≤◌, ◌⊎◌, inl, inr, Bool, true, false, not, cond, ◌||◌, ◌&&◌, Option, Some, None, IsSome, List, [], ◌∷◌, ◌++◌, length, refl, subst, sym, ap, ◌∙◌, arith, append-nil}
-use Rattle.std.proofs.lemmas.Bool.{false≢true, eq-eqb, eqb-true, or_parts, or_right, or_left, or_cases, or_from}
-use Rattle.std.proofs.lemmas.Bool.Decides.{nat_tests}
+-- Each event of an honest end, with its answer, keeps the laws on lives.
+use Rattle.std.proofs.Common.{◌≡◌, ℕ, ◌+◌, ◌^◌, ◌<◌, ◌≤◌, ◌⊎◌, inl, inr, Bool, true, false, not, ◌||◌, ◌&&◌, Option, Some, None, IsSome, List, [], ◌∷◌, ◌++◌, length, refl, subst, sym, ap, ◌∙◌, arith}
+use Rattle.std.proofs.lemmas.Bool.{false≢true, eq-eqb, eqb-true, or_right, or_left, or_cases, or_from}
 use Rattle.std.proofs.Math.Bool.{or-false}
 use Rattle.list_laws.specs.Lists.{IsPrefixOf}
-use Rattle.list_laws.proofs.Prefixes.{prefix_all, prefix_length}
-use Rattle.ring_words.specs.Rings.{size, diff, ready}
+use Rattle.ring_words.specs.Rings.{size, ready}
 use Rattle.ring_words.specs.Page.{order_of}
 use Rattle.ring_words.specs.declared.order.Order.{Order}
 use Rattle.ring_words.specs.declared.order.Orders.{Orders}
@@ -13,284 +11,26 @@ use Rattle.ring_words.specs.declared.page.Role.{Role}
 use Rattle.ring_words.specs.declared.page.Role.TheVariants.{Server, Client}
 use Rattle.ring_words.specs.declared.page.Ring.TheVariants.{Left, Right}
 use Rattle.ring_words.specs.declared.page.WordName.{WordName}
-use Rattle.ring_words.specs.declared.page.WordName.TheVariants.{LeftCons, LeftProd, RightCons, RightProd, LeftOrder, RightOrder}
-use Rattle.ring_words.proofs.RingLaws.{diff_counts, size_within}
+use Rattle.ring_words.specs.declared.page.WordName.TheVariants.{LeftProd, RightProd}
 use Rattle.vchan_protocol.specs.declared.op.Op.{Op}
-use Rattle.vchan_protocol.specs.declared.op.Op.TheVariants.{Load, Store}
-use Rattle.vchan_protocol.specs.declared.op.PastEvent.{PastEvent}
+use Rattle.vchan_protocol.specs.declared.op.Op.TheVariants.{Load}
 use Rattle.vchan_protocol.specs.declared.call.Answer.{Answer}
-use Rattle.vchan_protocol.specs.declared.call.Answer.TheVariants.{Done, AllRead, BadOrders, PeerGone as IsGone}
-use Rattle.vchan_protocol.specs.declared.call.Call.{Call}
+use Rattle.vchan_protocol.specs.declared.call.Answer.TheVariants.{AllRead, BadOrders, PeerGone as IsGone}
 use Rattle.vchan_protocol.specs.declared.call.EndState.{EndState}
-use Rattle.vchan_protocol.specs.declared.call.EndState.TheVariants.{Fresh, Open, Shut}
+use Rattle.vchan_protocol.specs.declared.call.EndState.TheVariants.{Shut}
 use Rattle.vchan_protocol.specs.declared.side.Side.{Side}
-use Rattle.vchan_protocol.specs.declared.side.Begun.{Begun}
 use Rattle.vchan_protocol.specs.declared.side.EndedBy.{EndedBy}
-use Rattle.vchan_protocol.specs.Table.Plan.{Plan, answers, does, GoesOn, Leads, next_op, after, past, rest_after}
-use Rattle.vchan_protocol.specs.Table.Ends.{Standing, state_after, cons_after, own_live, own_gone, peer_live, peer_gone, prod_word, read_ring}
-use Rattle.vchan_protocol.specs.Table.Calls.{plan_of}
+use Rattle.vchan_protocol.specs.Table.Plan.{Plan, answers, does, GoesOn, after, past}
+use Rattle.vchan_protocol.specs.Table.Ends.{state_after, cons_after, prod_word, read_ring}
 use Rattle.vchan_protocol.specs.Table.Apply.{words_after, value_taken}
-use Rattle.vchan_protocol.specs.History.Page.{live_word}
-use Rattle.vchan_protocol.specs.History.Core.{Core, opened, side_of, event, begun, begins, plan_left, plan_next, op_next, taken_next, begun_standing, made, settled, side_after, answered, saw_after, sent_after, sent_stored, got_after, got_stored, bytes_loaded, is_shut, sees_end, sets_gone, ending, drains, misleads, first_ended}
-use Rattle.vchan_protocol.specs.Honest.RingLaw.{index_at, word_at, RingLawful, CallLawful, IsLawfulIn, IsLawfulCall}
-use Rattle.vchan_protocol.specs.Honest.LifeLaw.{LifeLawful, SightLawful, StreamLawful, TellsGone, SaysOrders, OrdersGive, OrderGives, LooksGive, LookGives, LoadGives, shows_end, has_seen}
-use Rattle.vchan_protocol.specs.History.Peer.{held, peer}
+use Rattle.vchan_protocol.specs.History.Core.{Core, side_of, event, begins, plan_left, plan_next, op_next, taken_next, made, settled, side_after, answered, saw_after, sent_after, got_after, is_shut, sees_end, ending, drains, misleads, first_ended}
+use Rattle.vchan_protocol.specs.Honest.RingLaw.{index_at, word_at, RingLawful, CallLawful}
+use Rattle.vchan_protocol.specs.Honest.LifeLaw.{LifeLawful, TellsGone, SaysOrders, LooksGive, LookGives, LoadGives, shows_end, has_seen}
 use Rattle.vchan_protocol.specs.Honest.Lawful.{Lawful}
-use Rattle.vchan_protocol.proofs.Honest.LifeTrails.{Lives, OwesLife, OwesStore, OwesAnswer, or_assoc, lives_call, Lives_Leads}
-use Rattle.vchan_protocol.proofs.Honest.LifeWords.{spared_stays, left_order_spared, right_order_spared, peer_live_spared, peer_gone_spared, shut_stays, fresh_before, live_tells, gone_tells, shown_shut, order_given, gone_is, peer_unset}
-use Rattle.vchan_protocol.proofs.History.EventLaws.{diff_same}
-
--- ---- the opening
-
-open_fresh : Open ≢ Fresh
-open_fresh e = cc
-
-pub life_opened : (orders : Orders) (start : ℕ) (said : ℕ × ℕ) (state : EndState) → state ≢ Shut → LifeLawful (opened orders start said state)
-life_opened orders start said state fresh = record {
-  server_words = record { live = refl; gone = record { word = refl; shut = λ e. absurd (false≢true e) } };
-  client_words = record { live = refl; gone = record { word = refl; shut = λ e. absurd (false≢true e) } };
-  server_opened = open_fresh;
-  left_order = refl;
-  right_order = refl;
-  server_sight = record { saw = λ e. absurd (false≢true e); seen = λ e. absurd (false≢true e); later = tt };
-  client_sight = record { saw = λ e. absurd (false≢true e); seen = λ e. absurd (false≢true e); later = tt };
-  not_both_saw = λ both. false≢true both.0;
-  left = record { shut = λ e. absurd (false≢true e); all = λ e. absurd (false≢true e); ended = λ e. absurd (false≢true e) };
-  right = record { shut = λ e. absurd (false≢true e); all = λ e. absurd (false≢true e); ended = λ e. absurd (false≢true e) };
-  server_orders = tt;
-  client_orders = tt;
-  none_misled = λ says. (refl, refl);
-}
-
--- ---- one end and its peer
-
--- the laws on lives, as one end sees them
-record Between (role : Role) (start : ℕ) (said : ℕ × ℕ) (orders : Orders) (words : List ℕ) (mine theirs : Side) : Type 0 where
-  my_live : word_at orders words (own_live role) ≡ live_word mine.state
-  my_gone : TellsGone (word_at orders words (own_gone role)) mine.retired mine.state
-  their_live : word_at orders words (peer_live role) ≡ live_word theirs.state
-  their_gone : TellsGone (word_at orders words (peer_gone role)) theirs.retired theirs.state
-  left_order : word_at orders words LeftOrder ≡ said.0
-  right_order : word_at orders words RightOrder ≡ said.1
-  my_sight : SightLawful start mine theirs
-  their_sight : SightLawful start theirs mine
-  not_both : mine.saw ≡ true → theirs.saw ≡ true → ⊥
-  reads : StreamLawful theirs mine
-  writes : StreamLawful mine theirs
-  my_orders : OrdersGive said mine.trail
-  their_orders : OrdersGive said theirs.trail
-  my_misled : SaysOrders said orders → mine.misled ≡ false
-  their_misled : SaysOrders said orders → theirs.misled ≡ false
-
-as_server : (core : Core) → LifeLawful core → Between Server core.start core.said core.orders core.words core.server core.client
-as_server core h = record {
-  my_live = h.server_words.live;
-  my_gone = h.server_words.gone;
-  their_live = h.client_words.live;
-  their_gone = h.client_words.gone;
-  left_order = h.left_order;
-  right_order = h.right_order;
-  my_sight = h.server_sight;
-  their_sight = h.client_sight;
-  not_both = λ a b. h.not_both_saw (a, b);
-  reads = h.left;
-  writes = h.right;
-  my_orders = h.server_orders;
-  their_orders = h.client_orders;
-  my_misled = λ says. (h.none_misled says).0;
-  their_misled = λ says. (h.none_misled says).1;
-}
-
-as_client : (core : Core) → LifeLawful core → Between Client core.start core.said core.orders core.words core.client core.server
-as_client core h = record {
-  my_live = h.client_words.live;
-  my_gone = h.client_words.gone;
-  their_live = h.server_words.live;
-  their_gone = h.server_words.gone;
-  left_order = h.left_order;
-  right_order = h.right_order;
-  my_sight = h.client_sight;
-  their_sight = h.server_sight;
-  not_both = λ a b. h.not_both_saw (b, a);
-  reads = h.right;
-  writes = h.left;
-  my_orders = h.client_orders;
-  their_orders = h.server_orders;
-  my_misled = λ says. (h.none_misled says).1;
-  their_misled = λ says. (h.none_misled says).0;
-}
-
-by_server : (core : Core) → Between Server core.start core.said core.orders core.words core.server core.client → core.server.state ≢ Fresh → LifeLawful core
-by_server core b was_open = record {
-  server_words = record { live = b.my_live; gone = b.my_gone };
-  client_words = record { live = b.their_live; gone = b.their_gone };
-  server_opened = was_open;
-  left_order = b.left_order;
-  right_order = b.right_order;
-  server_sight = b.my_sight;
-  client_sight = b.their_sight;
-  not_both_saw = λ both. b.not_both both.0 both.1;
-  left = b.reads;
-  right = b.writes;
-  server_orders = b.my_orders;
-  client_orders = b.their_orders;
-  none_misled = λ says. (b.my_misled says, b.their_misled says);
-}
-
-by_client : (core : Core) → Between Client core.start core.said core.orders core.words core.client core.server → core.server.state ≢ Fresh → LifeLawful core
-by_client core b was_open = record {
-  server_words = record { live = b.their_live; gone = b.their_gone };
-  client_words = record { live = b.my_live; gone = b.my_gone };
-  server_opened = was_open;
-  left_order = b.left_order;
-  right_order = b.right_order;
-  server_sight = b.their_sight;
-  client_sight = b.my_sight;
-  not_both_saw = λ both. b.not_both both.1 both.0;
-  left = b.writes;
-  right = b.reads;
-  server_orders = b.their_orders;
-  client_orders = b.my_orders;
-  none_misled = λ says. (b.their_misled says, b.my_misled says);
-}
-
--- ---- a begin
-
-begins_between : (role : Role) (start : ℕ) (said : ℕ × ℕ) (orders : Orders) (words : List ℕ) (mine theirs : Side) (call : Call) (payload : List ℕ) →
-    Between role start said orders words mine theirs → Between role start said orders words (begins mine call payload) theirs
-begins_between role start said orders words mine theirs call payload b = record {
-  my_live = b.my_live;
-  my_gone = b.my_gone;
-  their_live = b.their_live;
-  their_gone = b.their_gone;
-  left_order = b.left_order;
-  right_order = b.right_order;
-  my_sight = record { saw = b.my_sight.saw; seen = λ e. absurd (false≢true e); later = tt };
-  their_sight = record { saw = b.their_sight.saw; seen = b.their_sight.seen; later = b.their_sight.later };
-  not_both = b.not_both;
-  reads = record { shut = b.reads.shut; all = b.reads.all; ended = b.reads.ended };
-  writes = record { shut = b.writes.shut; all = b.writes.all; ended = b.writes.ended };
-  my_orders = tt;
-  their_orders = b.their_orders;
-  my_misled = b.my_misled;
-  their_misled = b.their_misled;
-}
-
-pub life_begun : (core : Core) (who : Role) (call : Call) (payload : List ℕ) → LifeLawful core → LifeLawful (begun core who call payload)
-life_begun core Server call payload h = by_server (begun core Server call payload) (begins_between Server core.start core.said core.orders core.words core.server core.client call payload (as_server core h)) h.server_opened
-life_begun core Client call payload h = by_client (begun core Client call payload) (begins_between Client core.start core.said core.orders core.words core.client core.server call payload (as_client core h)) h.server_opened
-
--- ---- the call that an end is in
-
-record InLawfulCall (s : Side) : Type 0 where
-  begun : Begun
-  is : s.call ≡ Some begun
-  lawful : IsLawfulCall s begun
-  led : Leads (plan_of (begun_standing s begun) begun.call) s.trail (plan_left s)
-
-in_lawful_call : (s : Side) → CallLawful s → GoesOn (plan_left s) → InLawfulCall s
-in_lawful_call s lawful more = go s.call refl lawful more
-  where
-    go : (call : Option Begun) → s.call ≡ call → IsLawfulIn s call → GoesOn (elim call [ None ↦ answers Done | Some b ↦ rest_after (plan_of (begun_standing s b) b.call) s.trail ]) → InLawfulCall s
-    go None e inside more = absurd more
-    go (Some b) e inside more = record {
-      begun = b;
-      is = e;
-      lawful = inside;
-      led = subst (λ (call : Option Begun). Leads (plan_of (begun_standing s b) b.call) s.trail (elim call [ None ↦ answers Done | Some b ↦ rest_after (plan_of (begun_standing s b) b.call) s.trail ])) (sym e) inside.led;
-    }
-
--- what the end still owes in its call
-lives_now : (said : ℕ × ℕ) (final : ℕ) (s : Side) → InLawfulCall s → LooksGive final s.role false s.trail → OrdersGive said s.trail → Lives said final s.role s.orders s.state s.cons (has_seen s.role s.trail) (plan_left s)
-lives_now said final s c looks says =
-    subst (λ (x : Standing). Lives said final s.role s.orders x.state x.cons (has_seen s.role s.trail) (plan_left s)) c.lawful.stands
-    (Lives_Leads said final (begun_standing s c.begun) false (plan_of (begun_standing s c.begun) c.begun.call) s.trail (plan_left s)
-    (lives_call said final (begun_standing s c.begun) c.begun.call c.lawful.allowed) c.led looks says)
-
-owes_now : (said : ℕ × ℕ) (final : ℕ) (role : Role) (orders : Orders) (state : EndState) (cons : ℕ) (seen : Bool) (plan : Plan) → Lives said final role orders state cons seen plan → GoesOn plan → OwesLife (next_op plan) role state
-unfolding Lives
-owes_now said final role orders state cons seen (answers answer) w more = absurd more
-owes_now said final role orders state cons seen (does op next) w more = w.0
-
-lives_then : (said : ℕ × ℕ) (final : ℕ) (role : Role) (orders : Orders) (state : EndState) (cons : ℕ) (seen : Bool) (plan : Plan) (value : ℕ) → Lives said final role orders state cons seen plan → GoesOn plan →
-    (seen ≡ true → LookGives final (next_op plan) role value) → OrderGives said (next_op plan) value →
-    Lives said final role orders (state_after (next_op plan) role state) (cons_after (next_op plan) role cons) (seen || shows_end (next_op plan) role value) (after plan value)
-unfolding Lives
-lives_then said final role orders state cons seen (answers answer) value w more looks says = absurd more
-lives_then said final role orders state cons seen (does op next) value w more looks says = w.1 value looks says
-
-owes_answer : (said : ℕ × ℕ) (final : ℕ) (role : Role) (orders : Orders) (state : EndState) (cons : ℕ) (seen : Bool) (answer : Answer) → Lives said final role orders state cons seen (answers answer) → OwesAnswer said final role orders cons seen answer
-unfolding Lives
-owes_answer said final role orders state cons seen answer w = w
-
--- ---- a trail that grows
-
-has_seen_push : (role : Role) (events : List PastEvent) (event : PastEvent) → has_seen role (events ++ event ∷ []) ≡ (has_seen role events || shows_end event.op role event.taken)
-has_seen_push role [] event = or-false (shows_end event.op role event.taken)
-has_seen_push role (first ∷ events) event = ap (λ (b : Bool). shows_end first.op role first.taken || b) (has_seen_push role events event) ∙ sym (or_assoc (shows_end first.op role first.taken) (has_seen role events) (shows_end event.op role event.taken))
-
-LooksGive_push : (index : ℕ) (role : Role) (seen : Bool) (events : List PastEvent) (event : PastEvent) → LooksGive index role seen events → ((seen || has_seen role events) ≡ true → LookGives index event.op role event.taken) → LooksGive index role seen (events ++ event ∷ [])
-LooksGive_push index role seen [] event looks last = (λ was. last (or-false seen ∙ was), tt)
-LooksGive_push index role seen (first ∷ events) event looks last =
-    (looks.0, LooksGive_push index role (seen || shows_end first.op role first.taken) events event looks.1 (λ was. last (sym (or_assoc seen (shows_end first.op role first.taken) (has_seen role events)) ∙ was)))
-
-OrdersGive_push : (said : ℕ × ℕ) (events : List PastEvent) (event : PastEvent) → OrdersGive said events → OrderGives said event.op event.taken → OrdersGive said (events ++ event ∷ [])
-OrdersGive_push said [] event looks last = (last, tt)
-OrdersGive_push said (first ∷ events) event looks last = (looks.0, OrdersGive_push said events event looks.1 last)
-
-unseen_looks : (index : ℕ) (role : Role) (events : List PastEvent) → has_seen role events ≡ false → LooksGive index role false events
-unseen_looks index role [] none = tt
-unseen_looks index role (event ∷ events) none =
-    let both = or_parts (shows_end event.op role event.taken) (has_seen role events) none in
-    (λ was. absurd (false≢true was), subst (λ (b : Bool). LooksGive index role b events) (sym both.0) (unseen_looks index role events both.1))
-
--- ---- the lists of an end
-
--- a shut end shows no more bytes
-sent_stays : (op : Op) (s : Side) → OwesLife op s.role s.state → s.state ≡ Shut → sent_after op s ≡ s.sent
-sent_stays (Store word value) s owes shut = go word s.role owes
-  where
-    go : (word : WordName) (role : Role) → OwesStore word role s.state value → sent_stored word role s.trail s.payload s.sent ≡ s.sent
-    go LeftProd Client owes = absurd (owes shut)
-    go RightProd Server owes = absurd (owes shut)
-    go _ role owes = refl
-sent_stays _ s owes shut = refl
-
--- what was got stays, and more comes after it
-pub got_grows : (op : Op) (s : Side) → IsPrefixOf s.got (got_after op s)
-got_grows (Store word value) s = go word s.role
-  where
-    go : (word : WordName) (role : Role) → IsPrefixOf s.got (got_stored word role s.trail s.got)
-    go LeftCons Server = (bytes_loaded s.trail, refl)
-    go RightCons Client = (bytes_loaded s.trail, refl)
-    go _ role = ([], append-nil s.got)
-got_grows _ s = ([], append-nil s.got)
-
--- a reader that got all that was sent gets no more
-all_stays : (got then_got sent : List ℕ) → IsPrefixOf got then_got → IsPrefixOf then_got sent → got ≡ sent → then_got ≡ sent
-all_stays got then_got sent grown begins all =
-    prefix_all then_got sent begins (omega (arith, prefix_length got then_got grown, ap (λ (xs : List ℕ). length xs) all))
-
-ready_is : (prod cons : ℕ) (order : Order) → diff prod cons ≤ size order → ready prod cons order ≡ diff prod cons
-unfolding ready
-ready_is prod cons order fits = grind (arith, nat_tests)
-
-module _ (start : ℕ) (order : Order) (got sent : List ℕ) (begins : IsPrefixOf got sent) (fits : length sent ≤ length got + size order) where
-  ahead : diff (index_at start (length sent)) (index_at start (length got)) ≡ length sent - length got
-  ahead = diff_counts start (length sent) (length got) (prefix_length got sent begins) (omega (arith, fits, (size_within order).1))
-
-  -- if the two indices are equal, all that was sent is got
-  caught_up : index_at start (length sent) ≡ index_at start (length got) → got ≡ sent
-  caught_up same =
-      let apart : length sent - length got ≡ 0 = sym ahead ∙ ap (λ (n : ℕ). diff n (index_at start (length got))) same ∙ diff_same (index_at start (length got)) in
-      prefix_all got sent begins (omega (arith, apart))
-
-  -- if nothing is ready, the two indices are equal
-  none_ready : ready (index_at start (length sent)) (index_at start (length got)) order ≡ 0 → index_at start (length sent) ≡ index_at start (length got)
-  none_ready none =
-      let small : diff (index_at start (length sent)) (index_at start (length got)) ≤ size order = omega (arith, ahead, fits) in
-      let apart : length sent - length got ≡ 0 = sym ahead ∙ sym (ready_is _ _ order small) ∙ none in
-      ap (λ (n : ℕ). index_at start n) (omega (arith, apart, prefix_length got sent begins))
+use Rattle.vchan_protocol.proofs.Honest.LifeTrails.{Lives, OwesLife, OwesAnswer}
+use Rattle.vchan_protocol.proofs.Honest.LifeWords.{spared_stays, left_order_spared, right_order_spared, peer_live_spared, peer_gone_spared, shut_stays, fresh_before, live_tells, gone_tells, shown_shut, order_given}
+use Rattle.vchan_protocol.proofs.Honest.LifeSides.{Between, as_server, as_client, by_server, by_client}
+use Rattle.vchan_protocol.proofs.Honest.LifeOwed.{InLawfulCall, in_lawful_call, lives_now, owes_now, lives_then, owes_answer, has_seen_push, LooksGive_push, OrdersGive_push, unseen_looks, sent_stays, got_grows, all_stays, caught_up, none_ready}
 
 -- ---- an event
 
@@ -328,7 +68,7 @@ module _ (start : ℕ) (said : ℕ × ℕ) (orders : Orders) (words : List ℕ) 
   lives : Lives said (index_at start (length theirs.sent)) mine.role mine.orders mine.state mine.cons (has_seen mine.role mine.trail) (plan_left mine)
   lives = lives_now said (index_at start (length theirs.sent)) mine c b.my_sight.later b.my_orders
 
-  owes_next : OwesLife (op_next mine) mine.role mine.state
+  pub owes_next : OwesLife (op_next mine) mine.role mine.state
   owes_next = owes_now said (index_at start (length theirs.sent)) mine.role mine.orders mine.state mine.cons (has_seen mine.role mine.trail) (plan_left mine) lives more
 
   shows : shows_end (op_next mine) mine.role (value_taken orders words (op_next mine)) ≡ true → theirs.state ≡ Shut
@@ -496,7 +236,7 @@ settled_state : (s : Side) (plan : Plan) → (settled s plan).state ≡ s.state
 settled_state s (answers answer) = refl
 settled_state s (does op next) = refl
 
-long_words : (core : Core) → Lawful core → 14 ≤ length core.words
+pub long_words : (core : Core) → Lawful core → 14 ≤ length core.words
 long_words core h = omega (arith, h.sized)
 
 -- each event of an honest end keeps the laws on lives
@@ -512,43 +252,3 @@ life_event core Client h lives more left right =
     (acts_between Client core.start core.said core.orders core.words core.client core.server h.client_call more (long_words core h) h.client_end.role_is h.client_end.orders_are (as_client core lives) h.right.lawful.prod
     (right.lawful.own_cons, right.lawful.prefix, right.lawful.fits))
     lives.server_opened
-
--- ---- the gone words
-
-owes_life : (core : Core) (who : Role) → Lawful core → GoesOn (plan_left (side_of core who)) → OwesLife (op_next (side_of core who)) (side_of core who).role (side_of core who).state
-owes_life core Server h more =
-    owes_next core.start core.said core.orders core.words core.server core.client (in_lawful_call core.server h.server_call more) more (long_words core h)
-    (subst (λ (r : Role). Between r core.start core.said core.orders core.words core.server core.client) (sym h.server_end.role_is) (as_server core h.lives))
-    (subst (λ (r : Role). word_at core.orders core.words (prod_word (read_ring r)) ≡ index_at core.start (length core.client.sent)) (sym h.server_end.role_is) h.left.lawful.prod)
-owes_life core Client h more =
-    owes_next core.start core.said core.orders core.words core.client core.server (in_lawful_call core.client h.client_call more) more (long_words core h)
-    (subst (λ (r : Role). Between r core.start core.said core.orders core.words core.client core.server) (sym h.client_end.role_is) (as_client core h.lives))
-    (subst (λ (r : Role). word_at core.orders core.words (prod_word (read_ring r)) ≡ index_at core.start (length core.server.sent)) (sym h.client_end.role_is) h.right.lawful.prod)
-
-owes_as : (core : Core) (who : Role) → Lawful core → GoesOn (plan_left (side_of core who)) → OwesLife (op_next (side_of core who)) who (side_of core who).state
-owes_as core Server h more = subst (λ (r : Role). OwesLife (op_next core.server) r core.server.state) h.server_end.role_is (owes_life core Server h more)
-owes_as core Client h more = subst (λ (r : Role). OwesLife (op_next core.client) r core.client.state) h.client_end.role_is (owes_life core Client h more)
-
--- the words of a gone word's end, and of its peer
-gone_own : (core : Core) (who : Role) (payload : List ℕ) → Lawful core → GoesOn (plan_left (side_of core who)) →
-    word_at core.orders (words_after core.orders core.words payload (op_next (side_of core who))) (own_gone who) ≡ cond (sets_gone (op_next (side_of core who)) who) 1 (held core (own_gone who))
-gone_own core who payload h more = gone_is core.orders core.words payload (long_words core h) (op_next (side_of core who)) who (side_of core who).state (owes_as core who h more)
-
-gone_peer : (core : Core) (who : Role) (payload : List ℕ) → Lawful core → GoesOn (plan_left (side_of core who)) →
-    word_at core.orders (words_after core.orders core.words payload (op_next (side_of core who))) (peer_gone who) ≡ cond (sets_gone (op_next (side_of core who)) (peer who)) 1 (held core (peer_gone who))
-gone_peer core who payload h more =
-    spared_stays core.orders core.words payload (op_next (side_of core who)) who (side_of core who).state _ (peer_gone_spared core.orders who) (owes_as core who h more)
-    ∙ sym (ap (λ (b : Bool). cond b 1 (held core (peer_gone who))) (peer_unset (op_next (side_of core who)) who (side_of core who).state (owes_as core who h more)))
-
--- a gone word is set once, by its own end
-pub gone_set : (core : Core) (who whose : Role) → Lawful core → GoesOn (plan_left (side_of core who)) → held (event core who) (own_gone whose) ≡ cond (sets_gone (op_next (side_of core who)) whose) 1 (held core (own_gone whose))
-unfolding event
-gone_set core Server Server h more = gone_own core Server core.server.payload h more
-gone_set core Client Client h more = gone_own core Client core.client.payload h more
-gone_set core Server Client h more = gone_peer core Server core.server.payload h more
-gone_set core Client Server h more = gone_peer core Client core.client.payload h more
-
--- it is 1 if and only if its end is retired
-pub gone_tells_retired : (core : Core) (who : Role) → LifeLawful core → TellsGone (held core (own_gone who)) (side_of core who).retired (side_of core who).state
-gone_tells_retired core Server h = h.server_words.gone
-gone_tells_retired core Client h = h.client_words.gone

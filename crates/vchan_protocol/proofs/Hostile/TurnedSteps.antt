@@ -29,7 +29,7 @@ use Rattle.vchan_protocol.proofs.Table.Counted.{OwesIndex, counts_within}
 use Rattle.vchan_protocol.proofs.History.EventLaws.{OwesNext, stored_most_payload}
 use Rattle.vchan_protocol.proofs.Table.Sound.{OwesSound}
 use Rattle.vchan_protocol.proofs.Honest.EndSteps.{InLawful, in_lawful, owes_now, counts_now, call_begins, call_goes_on, not_yet}
-use Rattle.vchan_protocol.proofs.Honest.LifeSteps.{got_grows}
+use Rattle.vchan_protocol.proofs.Honest.LifeOwed.{got_grows}
 use Rattle.vchan_protocol.proofs.OneEnd.IndexLaws.{stores_own}
 use Rattle.vchan_protocol.specs.History.Peer.{peer}
 

@@ -1,4 +1,4 @@
-use Rattle.vchan_protocol.proofs.Honest.LifeSteps.{gone_set}
+use Rattle.vchan_protocol.proofs.Honest.GoneWords.{gone_set}
 use Rattle.vchan_protocol.proofs.laws.invariant.gone_is_set_once.Goals as goal
 
 pub returns : goal.returns

@@ -1,4 +1,4 @@
-use Rattle.vchan_protocol.proofs.Honest.LifeSteps.{gone_tells_retired}
+use Rattle.vchan_protocol.proofs.Honest.GoneWords.{gone_tells_retired}
 use Rattle.vchan_protocol.proofs.laws.invariant.gone_tells_retired.Goals as goal
 
 pub returns : goal.returns
