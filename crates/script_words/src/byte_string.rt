@@ -157,7 +157,6 @@ fn push_pairs(out: &mut Vec<u8>, digits: &[u8], most: usize) -> Result<(), PushE
 
 /// Appends the byte of a single pair of digits, without making room for it first. Streams that are
 /// captured byte by byte have no other words.
-#[tactic(auto, unfolding(crate::specs::ByteStrings::bytes_of_pairs))]
 #[inline(always)]
 fn push_pair(out: &mut Vec<u8>, high: u8, low: u8, most: usize) -> Result<(), PushError>
     ensures ok { OnOk result (Gains (at_most most (bytes_of_pairs (high ∷ low ∷ []))) out.old.items out.new.items) }
