@@ -1,5 +1,5 @@
 -- What is written of a message is spelled, and so it is read again.
-use Rattle.std.proofs.Common.{◌≡◌, ℕ, ◌-◌, ◌<◌, ◌≤◌, ◌^◌, List, [], ◌∷◌, ◌++◌, length, replicate, refl, sym, ◌∙◌, ap, arith, length-append, append_assoc}
+use Rattle.std.proofs.Common.{◌≡◌, ℕ, ◌+◌, ◌-◌, ◌<◌, ◌≤◌, ◌^◌, List, [], ◌∷◌, ◌++◌, length, replicate, refl, sym, ◌∙◌, ap, arith, length-append, append_assoc}
 use Rattle.std.proofs.lemmas.List.{length-replicate, append-nil}
 use Rattle.std.proofs.lemmas.Nat.{from_le_bytes-to_le_bytes_4}
 use Rattle.std.proofs.lemmas.Int.{to_z-of_z, ints}
@@ -40,36 +40,67 @@ number_of_lt kind.Trigger = omega arith
 pub length_padded : (len : ℕ) (text : List ℕ) → length text ≤ len → length (padded len text) ≡ len
 length_padded len text fits = omega (arith, length-append text (replicate (len - length text) 0), length-replicate {A = ℕ} (len - length text) 0)
 
--- the length of a body that is written lies in its type's range
-record IsWithin (k : Kind) (len : ℕ) : Type 0 where
-  least : least_len k ≤ len
-  most : len ≤ most_len k
+-- how many bytes the body of a message has
+abbrev pub size_of : Message → ℕ
+size_of (message.Hello version) = 4
+size_of (message.Stdin bytes) = length bytes
+size_of (message.Stdout bytes) = length bytes
+size_of (message.Stderr bytes) = length bytes
+size_of (message.ExitCode code) = 4
+size_of (message.Exec domain port line) = 9 + length line
+size_of (message.JustExec domain port line) = 9 + length line
+size_of (message.Connect domain port ident) = 40
+size_of (message.Refused ident) = 32
+size_of (message.Terminated domain port) = 8
+size_of (message.Trigger3 target ident service) = 97 + length service
+size_of (message.Trigger target ident service) = 128
 
-body_within : (m : Message) → Fits m → IsWithin (kind_of m) (length (body_of m))
-body_within (message.Hello version) fits = record { least = omega arith; most = omega arith }
-body_within (message.Stdin bytes) fits = record { least = omega arith; most = fits }
-body_within (message.Stdout bytes) fits = record { least = omega arith; most = fits }
-body_within (message.Stderr bytes) fits = record { least = omega arith; most = fits }
-body_within (message.ExitCode code) fits = record { least = omega arith; most = omega arith }
-body_within (message.Exec domain port line) fits = let size = length-append line (0 ∷ []) in record { least = omega (arith, size); most = omega (arith, size, fits.within) }
-body_within (message.JustExec domain port line) fits = let size = length-append line (0 ∷ []) in record { least = omega (arith, size); most = omega (arith, size, fits.within) }
-body_within (message.Connect domain port ident) fits = let size = length_padded 32 ident (omega (arith, fits.within)) in record { least = omega (arith, size); most = omega (arith, size) }
-body_within (message.Refused ident) fits = let size = length_padded 32 ident (omega (arith, fits.within)) in record { least = omega (arith, size); most = omega (arith, size) }
-body_within (message.Terminated domain port) fits = record { least = omega arith; most = omega arith }
-body_within (message.Trigger3 target ident service) fits =
+pub has_size : (m : Message) → Fits m → length (body_of m) ≡ size_of m
+has_size (message.Hello version) fits = refl
+has_size (message.Stdin bytes) fits = refl
+has_size (message.Stdout bytes) fits = refl
+has_size (message.Stderr bytes) fits = refl
+has_size (message.ExitCode code) fits = refl
+has_size (message.Exec domain port line) fits = omega (arith, length-append line (0 ∷ []))
+has_size (message.JustExec domain port line) fits = omega (arith, length-append line (0 ∷ []))
+has_size (message.Connect domain port ident) fits = omega (arith, length_padded 32 ident (omega (arith, fits.within)))
+has_size (message.Refused ident) fits = length_padded 32 ident (omega (arith, fits.within))
+has_size (message.Terminated domain port) fits = refl
+has_size (message.Trigger3 target ident service) fits =
     let first = length_padded 64 target (omega (arith, fits.0.within)) in
     let second = length_padded 32 ident (omega (arith, fits.1.within)) in
     let all = length-append (padded 64 target) (padded 32 ident ++ ended service) in
     let rest = length-append (padded 32 ident) (ended service) in
-    let size = length-append service (0 ∷ []) in
-    record { least = omega (arith, first, second, all, rest, size); most = omega (arith, first, second, all, rest, size, fits.2.within) }
-body_within (message.Trigger target ident service) fits =
+    omega (arith, first, second, all, rest, length-append service (0 ∷ []))
+has_size (message.Trigger target ident service) fits =
     let first = length_padded 64 service (omega (arith, fits.2.within)) in
     let second = length_padded 32 target (omega (arith, fits.0.within)) in
     let third = length_padded 32 ident (omega (arith, fits.1.within)) in
     let all = length-append (padded 64 service) (padded 32 target ++ padded 32 ident) in
     let rest = length-append (padded 32 target) (padded 32 ident) in
-    record { least = omega (arith, first, second, third, all, rest); most = omega (arith, first, second, third, all, rest) }
+    omega (arith, first, second, third, all, rest)
+
+-- the length of a body that is written lies in its type's range
+record IsWithin (k : Kind) (len : ℕ) : Type 0 where
+  least : least_len k ≤ len
+  most : len ≤ most_len k
+
+size_within : (m : Message) → Fits m → IsWithin (kind_of m) (size_of m)
+size_within (message.Hello version) fits = record { least = omega arith; most = omega arith }
+size_within (message.Stdin bytes) fits = record { least = omega arith; most = fits }
+size_within (message.Stdout bytes) fits = record { least = omega arith; most = fits }
+size_within (message.Stderr bytes) fits = record { least = omega arith; most = fits }
+size_within (message.ExitCode code) fits = record { least = omega arith; most = omega arith }
+size_within (message.Exec domain port line) fits = record { least = omega arith; most = omega (arith, fits.within) }
+size_within (message.JustExec domain port line) fits = record { least = omega arith; most = omega (arith, fits.within) }
+size_within (message.Connect domain port ident) fits = record { least = omega arith; most = omega arith }
+size_within (message.Refused ident) fits = record { least = omega arith; most = omega arith }
+size_within (message.Terminated domain port) fits = record { least = omega arith; most = omega arith }
+size_within (message.Trigger3 target ident service) fits = record { least = omega arith; most = omega (arith, fits.2.within) }
+size_within (message.Trigger target ident service) fits = record { least = omega arith; most = omega arith }
+
+body_within : (m : Message) → Fits m → IsWithin (kind_of m) (length (body_of m))
+body_within m fits = rw (has_size m fits) (size_within m fits)
 
 -- a field at the end of a body
 last_field : (front text : List ℕ) (start len : ℕ) → length front ≡ start → HasNoNul text → length text < len → field_text start len (front ++ padded len text) ≡ text

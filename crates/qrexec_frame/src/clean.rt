@@ -6,7 +6,7 @@ use std::alloc::Global;
 use vchan_io::Memory;
 
 /// The bytes that a name of one kind may hold.
-#[derive(Clone, Copy, Debug, PartialEq, Eq)]
+#[derive(Clone, Copy)]
 pub(crate) enum Letters {
     Name,
     Service,

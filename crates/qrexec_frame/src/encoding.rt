@@ -105,11 +105,7 @@ fn put_body(out: &mut Vec<u8>, message: &Message)
             domain,
             port,
             ident,
-        } => {
-            put_number(out, *domain);
-            put_number(out, *port);
-            put_field(out, ident, 32);
-        }
+        } => put_connect(out, *domain, *port, ident),
         Message::Refused { ident } => put_field(out, ident, 32),
         Message::Terminated { domain, port } => {
             put_number(out, *domain);
@@ -119,21 +115,46 @@ fn put_body(out: &mut Vec<u8>, message: &Message)
             target,
             ident,
             service,
-        } => {
-            put_field(out, target, 64);
-            put_field(out, ident, 32);
-            put_ended(out, service);
-        }
+        } => put_trigger3(out, target, ident, service),
         Message::Trigger {
             target,
             ident,
             service,
-        } => {
-            put_field(out, service, 64);
-            put_field(out, target, 32);
-            put_field(out, ident, 32);
-        }
+        } => put_trigger(out, target, ident, service),
     }
+}
+
+fn put_connect(out: &mut Vec<u8>, domain: u32, port: u32, ident: &Text)
+    requires within { length ident.now ≤ 31 }
+    requires room { vec_len out.old + 40 ≤ vec_capacity out.old }
+    ensures { out.new.items ≡ out.old.items ++ (four domain ++ (four port ++ padded 32 ident.now)) }
+{
+    put_number(out, domain);
+    put_number(out, port);
+    put_field(out, ident, 32);
+}
+
+fn put_trigger3(out: &mut Vec<u8>, target: &Text, ident: &Text, service: &Text)
+    requires target { length target.now ≤ 63 }
+    requires ident { length ident.now ≤ 31 }
+    requires room { vec_len out.old + (97 + length service.now) ≤ vec_capacity out.old }
+    ensures { out.new.items ≡ out.old.items ++ (padded 64 target.now ++ (padded 32 ident.now ++ ended service.now)) }
+{
+    put_field(out, target, 64);
+    put_field(out, ident, 32);
+    put_ended(out, service);
+}
+
+fn put_trigger(out: &mut Vec<u8>, target: &Text, ident: &Text, service: &Text)
+    requires target { length target.now ≤ 31 }
+    requires ident { length ident.now ≤ 31 }
+    requires service { length service.now ≤ 63 }
+    requires room { vec_len out.old + 128 ≤ vec_capacity out.old }
+    ensures { out.new.items ≡ out.old.items ++ (padded 64 service.now ++ (padded 32 target.now ++ padded 32 ident.now)) }
+{
+    put_field(out, service, 64);
+    put_field(out, target, 32);
+    put_field(out, ident, 32);
 }
 
 fn put_line(out: &mut Vec<u8>, domain: u32, port: u32, line: &Text)

@@ -4,6 +4,7 @@ ghost use Rattle.qrexec_frame.specs.Kinds.{least_len, most_len};
 ghost use Rattle.qrexec_frame.specs.Grammar.{number_at};
 ghost use Rattle.qrexec_frame.specs.Fronts.{made};
 ghost use Rattle.qrexec_frame.specs.Messages.{HasNumbers};
+ghost use Rattle.qrexec_frame.specs.declared.message.Message.TheVariants.{Trigger3, Trigger};
 ghost use Rattle.qrexec_frame.specs.Texts.{field_text, line_text};
 
 use crate::bytes::Bytes;
@@ -132,17 +133,33 @@ pub(crate) fn message_of(alloc: Global, kind: Kind, body: &[u8]) -> Result<Messa
             domain: u32_at(body, 0),
             port: u32_at(body, 4),
         }),
-        Kind::Trigger3 => Ok(Message::Trigger3 {
-            target: field(alloc, body, 0, 64)?,
-            ident: field(alloc, body, 64, 32)?,
-            service: line(alloc, body, 96)?,
-        }),
-        Kind::Trigger => Ok(Message::Trigger {
-            service: field(alloc, body, 0, 64)?,
-            target: field(alloc, body, 64, 32)?,
-            ident: field(alloc, body, 96, 32)?,
-        }),
+        Kind::Trigger3 => trigger3(alloc, body),
+        Kind::Trigger => trigger(alloc, body),
     }
+}
+
+// A call of version 3.
+fn trigger3(alloc: Global, body: &[u8]) -> Result<Message, AllocError>
+    requires { 97 ≤ length body.now }
+    ensures { IfOk result (λ m. m ≡ Trigger3 (field_text 0 64 body.now) (field_text 64 32 body.now) (line_text 96 body.now)) }
+{
+    Ok(Message::Trigger3 {
+        target: field(alloc, body, 0, 64)?,
+        ident: field(alloc, body, 64, 32)?,
+        service: line(alloc, body, 96)?,
+    })
+}
+
+// A call of version 2.
+fn trigger(alloc: Global, body: &[u8]) -> Result<Message, AllocError>
+    requires { 128 ≤ length body.now }
+    ensures { IfOk result (λ m. m ≡ Trigger (field_text 64 32 body.now) (field_text 96 32 body.now) (field_text 0 64 body.now)) }
+{
+    Ok(Message::Trigger {
+        service: field(alloc, body, 0, 64)?,
+        target: field(alloc, body, 64, 32)?,
+        ident: field(alloc, body, 96, 32)?,
+    })
 }
 
 fn copied(alloc: Global, body: &[u8]) -> Result<Bytes, AllocError>

@@ -1,5 +1,5 @@
 //! The table of message types: the number, the channel, the lengths of the body, and how it ends.
-ghost use Rattle.std.specs.Prelude.{◌≡◌, true, false};
+ghost use Rattle.std.specs.Prelude.{◌≡◌, ◌==◌, find, true, false};
 ghost use Rattle.qrexec_frame.specs.Kinds.{kind_on, number_of, least_len, most_len, has_line};
 
 /// The two kinds of channel that carry qrexec messages: one control channel per domain, and one data
@@ -66,7 +66,7 @@ const ON_CONTROL: [Kind; 8] = [
 ];
 
 /// What the table says of one type.
-#[derive(Clone, Copy, Debug)]
+#[derive(Clone, Copy)]
 struct Row {
     /// The number in a header.
     number: u32,
@@ -144,12 +144,17 @@ impl Kind {
         ensures { result ≡ kind_on channel number }
     {
         match channel {
-            Channel::Data => ON_DATA.iter().copied().find(|kind| number == kind.number()),
-            Channel::Control => ON_CONTROL
-                .iter()
-                .copied()
-                .find(|kind| number == kind.number()),
+            Channel::Data => Kind::among(&ON_DATA, number),
+            Channel::Control => Kind::among(&ON_CONTROL, number),
         }
+    }
+
+    // The type of this number among some types.
+    #[inline(always)]
+    fn among(kinds: &[Kind], number: u32) -> Option<Kind>
+        ensures { result ≡ find (λ k. number == number_of k) kinds.now }
+    {
+        kinds.iter().copied().find(|kind| number == kind.number())
     }
 
     /// Returns the number of the type, as a header has it.

@@ -1,6 +1,7 @@
 ghost use Rattle.std.specs.Prelude.{◌≡◌, ◌↔◌, IsTrue};
 ghost use Rattle.qrexec_frame.specs.Kinds.{number_of};
 ghost use Rattle.qrexec_frame.specs.Messages.{kind_of, Fits};
+ghost use Rattle.qrexec_frame.specs.Texts.{FitsText};
 
 use crate::bytes::Bytes;
 use crate::kind::Kind;
@@ -130,19 +131,26 @@ pub fn fits(message: &Message) -> bool
             target,
             ident,
             service,
-        } => {
-            target.bytes().len() <= MOST_IN_64
-                && ident.bytes().len() <= MOST_IN_32
-                && service.bytes().len() <= MOST_SERVICE
-        }
+        } => call_fits(target, MOST_IN_64, ident, service, MOST_SERVICE),
         Message::Trigger {
             target,
             ident,
             service,
-        } => {
-            target.bytes().len() <= MOST_IN_32
-                && ident.bytes().len() <= MOST_IN_32
-                && service.bytes().len() <= MOST_IN_64
-        }
+        } => call_fits(target, MOST_IN_32, ident, service, MOST_IN_64),
     }
+}
+
+// Whether the texts of a call are within the greatest lengths.
+fn call_fits(
+    target: &Text,
+    most_target: usize,
+    ident: &Text,
+    service: &Text,
+    most_service: usize,
+) -> bool
+    ensures { IsTrue result ↔ FitsText most_target target.now × FitsText 31 ident.now × FitsText most_service service.now }
+{
+    target.bytes().len() <= most_target
+        && ident.bytes().len() <= MOST_IN_32
+        && service.bytes().len() <= most_service
 }
