@@ -1,6 +1,6 @@
 -- A caller keeps what it stands for.
 use Rattle.std.proofs.Common.{◌≡◌, ℕ, ◌+◌, ◌-◌, ◌<◌, ◌≤◌, ◌^◌, List, [], ◌∷◌, ◌++◌, length, take, drop, refl, ap, sym, ◌∙◌, subst, arith, ◌⊎◌, inl, inr, Option, Some, None}
-use Rattle.std.proofs.lemmas.List.{append-nil, length-drop, length-take-le}
+use Rattle.std.proofs.lemmas.List.{append-nil, length-drop, length-take-le, take-append-le}
 use Rattle.std.proofs.lemmas.Bool.Decides.{nat_tests}
 use Rattle.std.specs.Prelude.{true, false, Bool, min, nat_lt, ◌==◌, is_none, is_some, not, if◌then◌else◌, IsSome, ◌↔◌}
 use Rattle.list_laws.proofs.Tests.{no_length, has_length, not_empty_lem}
@@ -10,7 +10,7 @@ use Rattle.qrexec_frame.specs.declared.message.Message.{Message}
 use Rattle.qrexec_frame.specs.declared.message.Message.TheVariants.{Hello, Stdin}
 use Rattle.qrexec_frame.specs.Messages.{written}
 use Rattle.qrexec_frame.specs.Grammar.{Fault}
-use Rattle.qrexec_frame.specs.Fronts.{front, fault_at}
+use Rattle.qrexec_frame.specs.Fronts.{front, fault_at, reading}
 use Rattle.qrexec_frame.specs.Streams.{Whole, Bad, Short, Placed, Reading, Rest}
 use Rattle.qrexec_data.specs.declared.outcome.SessionFault.TheVariants as fault
 use Rattle.qrexec_data.specs.declared.outcome.Outcome.{Outcome}
@@ -22,7 +22,7 @@ use Rattle.qrexec_data.specs.Replies.{RepliesState, after_message, faulted, Know
 use Rattle.qrexec_data.specs.Requests.{RequestsState, next_len, packed_next, packed_on, end_if, SendsInput, SendsRequests}
 use Rattle.qrexec_data.specs.CallerSide.{CallerState, ReadsReply, NothingLeft, OneMessage, OneFault, IsReading, HasRead, CallerStandsFor, LendsRequests, IsStill}
 use Rattle.qrexec_data.proofs.SpelledLaws.{spelled, spelled_behind, each_one, take_more, written_some}
-use Rattle.qrexec_data.proofs.ReadingLaws.{ReadsNext, reading_short, reading_bad, reading_next}
+use Rattle.qrexec_data.proofs.ReadingLaws.{ReadsNext, reading_short, reading_bad, reading_next, more_bytes}
 use Rattle.qrexec_data.proofs.HearingLaws.{left_over, seen_frame, joined_piece}
 use Rattle.qrexec_data.proofs.RepliesLaws.{if_true, if_false, Heard, GoesOn, Decides, placed_at, hears}
 use Rattle.qrexec_data.proofs.MaySendLaws.{some_limit}
@@ -335,3 +335,41 @@ lends_inside old inside r version piece same none agreed packed lent =
     let s = still inside (none_if inside.replies.outcome none) in
     let w : piece ≡ (packed_on inside.replies.version inside.requests).waiting = lent ∙ ap (λ x. x.waiting) is in
     subst P same (lends inside r piece (none_if inside.replies.outcome none) is lent, (λ h. s.0 (sym w ∙ h), λ h. w ∙ s.1 h))
+
+-- ---- taking
+
+-- more bytes came
+reads_more : (c : CallerState) (piece : List ℕ) → IsReading c → IsReading (record c { inbox = record c.inbox { got = c.inbox.got ++ piece } })
+reads_more c piece h =
+    let same : take c.inbox.read (c.inbox.got ++ piece) ≡ take c.inbox.read c.inbox.got = take-append-le c.inbox.read c.inbox.got piece h.at.within in
+    let P : List ℕ → Type 0 = λ bytes. KnowsReplies c.replies (reading Data bytes).placed (sees_all caller_use (reading Data bytes).placed (Rest 0)) in
+    record { undecided = h.undecided; at = more_bytes c.inbox piece h.at; knows = subst P (sym same) h.knows }
+
+-- a version came, or it was there
+sends_agreed : (own : ℕ) (old new : Option ℕ) (r : RequestsState) (sent : List ℕ) → ((v : ℕ) → old ≡ Some v → new ≡ Some v) → SendsRequests own old r sent → SendsRequests own new r sent
+sends_agreed own None None r sent kept s = s
+sends_agreed own None (Some version) r sent kept s = record {
+  pieces = [];
+  each = tt;
+  all = rw s.none refl;
+  within = rw s.none (omega arith);
+  stream = s.stream ∙ rw s.unclosed (sym (append-nil (written (Hello own))));
+  done = λ yes. let no : false ≡ true = sym s.unclosed ∙ yes in cc;
+}
+sends_agreed own (Some version) new r sent kept s =
+    let P : Option ℕ → Type 0 = λ v. SendsRequests own v r sent in
+    subst P (sym (kept version refl)) s
+
+-- a caller that reads more bytes
+pub takes : (old inside new : CallerState) (inbox : InboxState) (sent piece : List ℕ) → inside ≡ old → is_some inside.replies.outcome ≡ false → inbox ≡ record inside.inbox { got = inside.inbox.got ++ piece }
+    → (new.requests ≡ inside.requests) × (new.replies.own ≡ inside.replies.own) → ((v : ℕ) → inside.replies.version ≡ Some v → new.replies.version ≡ Some v)
+    → (IsReading (record inside { inbox = inbox }) → HasRead new) → CallerStandsFor old sent → CallerStandsFor new sent
+takes old inside new inbox sent piece same undecided came kept version read stands =
+    let A : CallerState → Type 0 = λ c. CallerStandsFor c sent in
+    let s : CallerStandsFor inside sent = subst A (sym same) stands in
+    let P : InboxState → Type 0 = λ i. IsReading (record inside { inbox = i }) in
+    record {
+      chunk = rw kept.0 s.chunk;
+      read = read (subst P (sym came) (reads_more inside piece (s.read.goes_on (none_if inside.replies.outcome undecided))));
+      sends = rw (kept.0, kept.1) (sends_agreed inside.replies.own inside.replies.version new.replies.version inside.requests sent version s.sends);
+    }

@@ -51,10 +51,11 @@ impl Caller {
         ensures asked { IfOk result (λ c. (c.requests.input ≡ stdin.items) × (c.requests.chunk ≡ chunk) × (c.replies.own ≡ own)) }
         ensures new { IfOk result (λ c. (c.inbox.got ≡ []) × (c.replies.outcome ≡ None) × CallerStandsFor c []) }
     {
+        let requests = Requests::new(alloc, stdin, own, chunk)?;
         Ok(Caller {
             inbox: Inbox::new(alloc),
             replies: Replies::new(alloc, own),
-            requests: Requests::new(alloc, stdin, own, chunk)?,
+            requests,
         })
     }
 

@@ -91,19 +91,26 @@ impl Unsent {
         requires { (2 ≤ own) × (own ≤ 3) }
         ensures { OnOk result (self.new ≡ self.old ++ written (message.Hello own)) }
     {
-        let greeting = Hello::announce(own);
-        self.put(&greeting)
+        self.put(Hello::announce(own))
     }
 
     /// Appends an exit code.
     pub(crate) fn put_code(&mut self, code: i32) -> Result<(), Memory>
         ensures { OnOk result (self.new ≡ self.old ++ written (message.ExitCode code)) }
     {
-        let message = Message::ExitCode { code };
-        self.put(&message)
+        self.put(Message::ExitCode { code })
     }
 
-    fn put(&mut self, message: &Message) -> Result<(), Memory>
+    // Owns the message, so that its one end is here.
+    fn put(&mut self, message: Message) -> Result<(), Memory>
+        requires { Fits message }
+        ensures ok { OnOk result (self.new ≡ self.old ++ written message) }
+        ensures err { OnErr result (self.new ≡ self.old) }
+    {
+        self.put_lent(&message)
+    }
+
+    fn put_lent(&mut self, message: &Message) -> Result<(), Memory>
         requires { Fits message.now }
         ensures ok { OnOk result (self.new ≡ self.old ++ written message.now) }
         ensures err { OnErr result (self.new ≡ self.old) }
