@@ -1,5 +1,5 @@
 //! The keys of a table, and values of the types that a scenario needs.
-ghost use Rattle.std.specs.Prelude.{◌≡◌, ◌≤◌, option_map, bytes_eq, IfOk, IfSome};
+ghost use Rattle.std.specs.Prelude.{◌≡◌, ◌≤◌, ◌∷◌, [], option_map, bytes_eq, IfOk, IfSome};
 ghost use Rattle.std.specs.List.{list_any};
 ghost use Rattle.toml.specs.Data.{get_member};
 ghost use Rattle.toml.specs.View.{array_view, items_view, table_view, view};
@@ -43,11 +43,10 @@ fn is_known(section: Section, hostile: bool, key: &str) -> bool
     ensures { result ≡ list_any (bytes_eq key.now) (keys_of section hostile) }
 {
     match section {
-        Section::Top => key == "rings" || key == "domain" || key == "call",
-        Section::Rings => key == "control" || key == "data" || key == "start",
-        Section::Domain(_) => {
-            key == "name" || key == "hostile" || key == if hostile { "ports" } else { "version" }
-        }
+        Section::Top => is_among(key, "rings", "domain", "call"),
+        Section::Rings => is_among(key, "control", "data", "start"),
+        Section::Domain(_) if hostile => is_among(key, "name", "hostile", "ports"),
+        Section::Domain(_) => is_among(key, "name", "hostile", "version"),
         Section::Call(_) => is_known_of_call(key),
     }
 }
@@ -56,12 +55,14 @@ fn is_known(section: Section, hostile: bool, key: &str) -> bool
 fn is_known_of_call(key: &str) -> bool
     ensures { result ≡ list_any (bytes_eq key.now) call_keys }
 {
-    key == "from"
-        || key == "to"
-        || key == "service"
-        || key == "stdin"
-        || key == "stdin_hex"
-        || key == "stdin_fill"
+    is_among(key, "from", "to", "service") || is_among(key, "stdin", "stdin_hex", "stdin_fill")
+}
+
+/// Returns whether a key is one of three.
+fn is_among(key: &str, first: &str, second: &str, third: &str) -> bool
+    ensures { result ≡ list_any (bytes_eq key.now) (first.now ∷ second.now ∷ third.now ∷ []) }
+{
+    key == first || key == second || key == third
 }
 
 /// Returns the text of a value.
