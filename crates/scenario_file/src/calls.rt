@@ -192,9 +192,21 @@ fn read_text_input<'t>(
     ensures input { Gives (λ input. input) result (optional None (input_in number) (get_member (codes "stdin") (table_view table.now))) }
     ensures within { IfOk result (λ input. IfSome input (λ bytes. length bytes ≤ 1048576)) }
 {
-    let Some(value) = member(table, "stdin") else {
-        return Ok(None);
-    };
+    match member(table, "stdin") {
+        None => Ok(None),
+        Some(value) => input_in(alloc, number, value),
+    }
+}
+
+/// Reads a value as the input by the key `stdin`.
+fn input_in<'t>(
+    alloc: Global,
+    number: usize,
+    value: &'t Value,
+) -> Result<Option<Bytes>, CheckError<'t>>
+    ensures input { Gives (λ input. input) result (input_in number (view value.now)) }
+    ensures within { IfOk result (λ input. IfSome input (λ bytes. length bytes ≤ 1048576)) }
+{
     let text = text_in(value, KeyPlace::key(Section::Call(number), "stdin"))?;
     let bytes = within_limit(number, text.as_bytes())?;
     Ok(Some(Bytes::of(Vec::from_slice(alloc, bytes)?)))
@@ -211,20 +223,40 @@ fn read_hex_input<'t>(
     ensures input { Gives (λ input. input) result (optional before (hex_input_in number before) (get_member (codes "stdin_hex") (table_view table.now))) }
     ensures within { IfOk result (λ input. IfSome input (λ bytes. length bytes ≤ 1048576)) }
 {
-    let Some(value) = member(table, "stdin_hex") else {
-        return Ok(before);
-    };
+    match member(table, "stdin_hex") {
+        None => Ok(before),
+        Some(value) => hex_input_in(alloc, number, &before, value),
+    }
+}
+
+/// Reads a value as the input by the key `stdin_hex`.
+fn hex_input_in<'t>(
+    alloc: Global,
+    number: usize,
+    before: &Option<Bytes>,
+    value: &'t Value,
+) -> Result<Option<Bytes>, CheckError<'t>>
+    ensures input { Gives (λ input. input) result (hex_input_in number before.now (view value.now)) }
+    ensures within { IfOk result (λ input. IfSome input (λ bytes. length bytes ≤ 1048576)) }
+{
     let at = KeyPlace::key(Section::Call(number), "stdin_hex");
     let text = text_in(value, at)?;
     first_input(before.is_some(), at)?;
     let bytes = hex_bytes(alloc, text.as_bytes(), at)?;
+    input_within(number, bytes)
+}
+
+/// Returns some bytes as the input, if they are within the limit.
+fn input_within<'t>(number: usize, bytes: Vec<u8>) -> Result<Option<Bytes>, CheckError<'t>>
+    ensures input { Gives (λ input. input) result (within_limit number bytes.items) }
+    ensures within { IfOk result (λ input. IfSome input (λ bytes. length bytes ≤ 1048576)) }
+{
     within_limit(number, bytes.as_slice())?;
     Ok(Some(Bytes::of(bytes)))
 }
 
 /// Returns the input by the key `stdin_fill`, the length of a fill, or the input before if it has
 /// no value.
-#[tactic(auto, using(crate::proofs::GeneratedLaws::length_fill))]
 fn read_fill_input<'t>(
     alloc: Global,
     number: usize,
@@ -235,13 +267,41 @@ fn read_fill_input<'t>(
     ensures input { Gives (λ input. input) result (optional before (fill_input_in number before) (get_member (codes "stdin_fill") (table_view table.now))) }
     ensures within { IfOk result (λ input. IfSome input (λ bytes. length bytes ≤ 1048576)) }
 {
-    let Some(value) = member(table, "stdin_fill") else {
-        return Ok(before);
-    };
+    match member(table, "stdin_fill") {
+        None => Ok(before),
+        Some(value) => fill_input_in(alloc, number, &before, value),
+    }
+}
+
+/// Reads a value as the input by the key `stdin_fill`.
+fn fill_input_in<'t>(
+    alloc: Global,
+    number: usize,
+    before: &Option<Bytes>,
+    value: &'t Value,
+) -> Result<Option<Bytes>, CheckError<'t>>
+    ensures input { Gives (λ input. input) result (fill_input_in number before.now (view value.now)) }
+    ensures within { IfOk result (λ input. IfSome input (λ bytes. length bytes ≤ 1048576)) }
+{
     let at = KeyPlace::key(Section::Call(number), "stdin_fill");
     let z = integer_in(value, at)?;
     first_input(before.is_some(), at)?;
-    let count = natural(z).ok_or(CheckError::Bad(ScenarioKind::BadNumber, at))?;
+    match natural(z) {
+        Some(count) => fill_within(alloc, number, count),
+        None => Err(CheckError::Bad(ScenarioKind::BadNumber, at)),
+    }
+}
+
+/// Returns the fill of a length, if it is within the limit.
+#[tactic(auto, using(crate::proofs::GeneratedLaws::length_fill))]
+fn fill_within<'t>(
+    alloc: Global,
+    number: usize,
+    count: u64,
+) -> Result<Option<Bytes>, CheckError<'t>>
+    ensures input { Gives (λ input. input) result (fill_within number count) }
+    ensures within { IfOk result (λ input. IfSome input (λ bytes. length bytes ≤ 1048576)) }
+{
     if count > MOST_STDIN as u64 {
         return Err(CheckError::Bad(
             ScenarioKind::TooMany,
