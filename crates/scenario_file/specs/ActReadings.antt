@@ -1,5 +1,5 @@
 -- The answers of a reader of a part of an act, against what is due.
-use Rattle.std.specs.Prelude.{◌≡◌, Option, Some, None, Result, Ok, Err}
+use Rattle.std.specs.Prelude.{◌≡◌, ℕ, List, [], ◌∷◌, Option, Some, None, Result, Ok, Err}
 use Rattle.script_words.specs.declared.byte_string.ByteError.{ByteError}
 use Rattle.script_words.specs.declared.byte_string.ByteError.TheVariants as byte
 use Rattle.scenario_file.specs.declared.act_words.ActError.{ActError}
@@ -19,3 +19,8 @@ Spells seen (Err e) due = IsActRefusal e due
 abbrev pub act_error_of : ByteError → ActError
 act_error_of byte.BadHex = error.Bad
 act_error_of byte.Memory = error.Memory
+
+-- the words aren't three
+abbrev pub AreNotThree : List (List ℕ) → Type 0
+AreNotThree (first ∷ second ∷ third ∷ []) = ⊥
+AreNotThree _ = Unit {0}

@@ -1,9 +1,10 @@
 //! Reading the acts of a hostile domain.
-ghost use Rattle.std.specs.Prelude.{◌≡◌, ◌==◌, ◌<◌, ◌≤◌, length, position, option_map, true, Some, None, IfOk, IfSome};
+ghost use Rattle.std.specs.Prelude.{◌≡◌, ◌==◌, ◌<◌, ◌≤◌, ◌∷◌, [], length, position, bytes_eq, codes, option_map, true, false, MatchOption, IfOk, IfSome};
 ghost use Rattle.script_words.specs.WordsLeft.{words_left};
 ghost use Rattle.scenario_file.specs.Acts.{ActFits, PageFits};
 ghost use Rattle.scenario_file.specs.Names.{is_name, is_service};
-ghost use Rattle.scenario_file.specs.ActReadings.{Spells};
+ghost use Rattle.scenario_file.specs.ActReadings.{AreNotThree, Spells};
+ghost use Rattle.scenario_file.specs.declared.acts.Act.{Act};
 ghost use Rattle.scenario_file.specs.ActWords.{act_of, act_of_words, alone, any_number, byte_at, byte_named, colon_parts, data_page, name_word, number_from, page_of, poke_from, poke_of, rest_of, say_of, scribble_of, service_word, terminate_of, trigger_from, trigger_of, word_named};
 
 use crate::acts::{Act, ActPage};
@@ -52,36 +53,52 @@ pub(crate) fn read_act(alloc: Global, text: &[u8]) -> Result<Act, ActError>
     ensures fits { IfOk result ActFits }
 {
     let mut words = WordsOfLine::of(text);
-    let verb = words.next().ok_or(ActError::Bad)?;
-    if verb == b"hello".as_slice() {
-        alone(Act::Hello, words)
-    } else if verb == b"say".as_slice() {
+    let Some(verb) = words.next() else {
+        return Err(ActError::Bad);
+    };
+    if verb == b"say".as_slice() {
         read_say(alloc, words)
     } else if verb == b"trigger".as_slice() {
         read_trigger(alloc, words)
-    } else if verb == b"terminate".as_slice() {
-        read_terminate(words)
     } else if verb == b"poke".as_slice() {
         read_poke(alloc, words)
-    } else if verb == b"scribble".as_slice() {
-        read_scribble(words)
-    } else if verb == b"signal".as_slice() {
-        alone(Act::Signal, words)
-    } else if verb == b"rest".as_slice() {
-        read_rest(words)
     } else {
-        Err(ActError::Bad)
+        read_plain(verb, words).ok_or(ActError::Bad)
     }
 }
 
-/// Returns this act, if no word is left.
-fn alone(act: Act, mut words: WordsOfLine) -> Result<Act, ActError>
-    ensures act { Spells (λ act. act) result (alone act (words_left words.entry)) }
-    ensures same { IfOk result (λ made. made ≡ act) }
+/// Reads an act without texts and bytes, so that no memory can run out for it.
+fn read_plain(verb: &[u8], words: WordsOfLine) -> Option<Act>
+    requires say { bytes_eq verb.now (codes "say") ≡ false }
+    requires trigger { bytes_eq verb.now (codes "trigger") ≡ false }
+    requires poke { bytes_eq verb.now (codes "poke") ≡ false }
+    ensures act { result ≡ act_of_words (verb.now ∷ words_left words.entry) }
+    ensures fits { IfSome result ActFits }
+{
+    if verb == b"hello".as_slice() {
+        read_nothing(words)?;
+        Some(Act::Hello)
+    } else if verb == b"terminate".as_slice() {
+        read_terminate(words)
+    } else if verb == b"scribble".as_slice() {
+        read_scribble(words)
+    } else if verb == b"signal".as_slice() {
+        read_nothing(words)?;
+        Some(Act::Signal)
+    } else if verb == b"rest".as_slice() {
+        read_rest(words)
+    } else {
+        None
+    }
+}
+
+/// Checks that no word is left.
+fn read_nothing(mut words: WordsOfLine) -> Option<()>
+    ensures { (act : Act) → option_map (λ x. act) result ≡ alone act (words_left words.entry) }
 {
     match words.next() {
-        None => Ok(act),
-        Some(_) => Err(ActError::Bad),
+        None => Some(()),
+        Some(_) => None,
     }
 }
 
@@ -90,20 +107,32 @@ fn read_say(alloc: Global, words: WordsOfLine) -> Result<Act, ActError>
     ensures act { Spells (λ act. act) result (say_of (words_left words.entry)) }
     ensures fits { IfOk result ActFits }
 {
-    let word = words.only().ok_or(ActError::Bad)?;
+    let Some(word) = words.only() else {
+        return Err(ActError::Bad);
+    };
     let bytes = Bytes::of(bytes_of(alloc, word)?);
     Ok(Act::Say { bytes })
 }
 
 /// Reads the words of `trigger TO SERVICE K`.
-fn read_trigger(alloc: Global, mut words: WordsOfLine) -> Result<Act, ActError>
+fn read_trigger(alloc: Global, words: WordsOfLine) -> Result<Act, ActError>
     ensures act { Spells (λ act. act) result (trigger_of (words_left words.entry)) }
     ensures fits { IfOk result ActFits }
 {
-    let to = words.next().ok_or(ActError::Bad)?;
-    let service = words.next().ok_or(ActError::Bad)?;
-    let count = words.only().ok_or(ActError::Bad)?;
-    trigger_from(alloc, to, service, count)
+    match three_words(words) {
+        Some((to, service, count)) => trigger_from(alloc, to, service, count),
+        None => Err(ActError::Bad),
+    }
+}
+
+/// Returns the words that are left, if there are three.
+fn three_words(mut words: WordsOfLine) -> Option<(&[u8], &[u8], &[u8])>
+    ensures { MatchOption result (AreNotThree (words_left words.entry)) (λ three. words_left words.entry ≡ three.0.now ∷ three.1.now ∷ three.2.now ∷ []) }
+{
+    let first = words.next()?;
+    let second = words.next()?;
+    let third = words.only()?;
+    Some((first, second, third))
 }
 
 /// Reads the three words of a trigger.
@@ -111,59 +140,62 @@ fn trigger_from(alloc: Global, to: &[u8], service: &[u8], count: &[u8]) -> Resul
     ensures act { Spells (λ act. act) result (trigger_from to.now service.now count.now) }
     ensures fits { IfOk result ActFits }
 {
+    let Some(count) = number_from(1, 64, count) else {
+        return Err(ActError::Bad);
+    };
     Ok(Act::Trigger {
         to: name_word(alloc, to)?,
         service: service_word(alloc, service)?,
-        count: number_from(1, 64, count)?,
+        count,
     })
 }
 
 /// Reads the words of `terminate DOMAIN PORT`.
-fn read_terminate(mut words: WordsOfLine) -> Result<Act, ActError>
-    ensures act { Spells (λ act. act) result (terminate_of (words_left words.entry)) }
-    ensures fits { IfOk result ActFits }
+fn read_terminate(mut words: WordsOfLine) -> Option<Act>
+    ensures act { result ≡ terminate_of (words_left words.entry) }
+    ensures fits { IfSome result ActFits }
 {
-    let domain = words.next().ok_or(ActError::Bad)?;
-    let port = words.only().ok_or(ActError::Bad)?;
-    Ok(Act::Terminate {
-        domain: any_number(domain).ok_or(ActError::Bad)?,
-        port: any_number(port).ok_or(ActError::Bad)?,
+    let domain = words.next()?;
+    let port = words.only()?;
+    Some(Act::Terminate {
+        domain: any_number(domain)?,
+        port: any_number(port)?,
     })
 }
 
 /// Reads the words of `scribble SEED K`.
-fn read_scribble(mut words: WordsOfLine) -> Result<Act, ActError>
-    ensures act { Spells (λ act. act) result (scribble_of (words_left words.entry)) }
-    ensures fits { IfOk result ActFits }
+fn read_scribble(mut words: WordsOfLine) -> Option<Act>
+    ensures act { result ≡ scribble_of (words_left words.entry) }
+    ensures fits { IfSome result ActFits }
 {
-    let seed = words.next().ok_or(ActError::Bad)?;
-    let count = words.only().ok_or(ActError::Bad)?;
-    Ok(Act::Scribble {
+    let seed = words.next()?;
+    let count = words.only()?;
+    Some(Act::Scribble {
         seed: number_from(0, 65_535, seed)?,
         count: number_from(1, 65_536, count)?,
     })
 }
 
 /// Reads the word of `rest K`.
-fn read_rest(words: WordsOfLine) -> Result<Act, ActError>
-    ensures act { Spells (λ act. act) result (rest_of (words_left words.entry)) }
-    ensures fits { IfOk result ActFits }
+fn read_rest(words: WordsOfLine) -> Option<Act>
+    ensures act { result ≡ rest_of (words_left words.entry) }
+    ensures fits { IfSome result ActFits }
 {
-    let word = words.only().ok_or(ActError::Bad)?;
-    Ok(Act::Rest {
+    let word = words.only()?;
+    Some(Act::Rest {
         turns: number_from(1, 65_536, word)?,
     })
 }
 
 /// Reads the words of `poke PAGE WORD VALUE`.
-fn read_poke(alloc: Global, mut words: WordsOfLine) -> Result<Act, ActError>
+fn read_poke(alloc: Global, words: WordsOfLine) -> Result<Act, ActError>
     ensures act { Spells (λ act. act) result (poke_of (words_left words.entry)) }
     ensures fits { IfOk result ActFits }
 {
-    let page = words.next().ok_or(ActError::Bad)?;
-    let word = words.next().ok_or(ActError::Bad)?;
-    let value = words.only().ok_or(ActError::Bad)?;
-    poke_from(alloc, page, word, value)
+    match three_words(words) {
+        Some((page, word, value)) => poke_from(alloc, page, word, value),
+        None => Err(ActError::Bad),
+    }
 }
 
 /// Reads the three words of a poke.
@@ -171,23 +203,26 @@ fn poke_from(alloc: Global, page: &[u8], word: &[u8], value: &[u8]) -> Result<Ac
     ensures act { Spells (λ act. act) result (poke_from page.now word.now value.now) }
     ensures fits { IfOk result ActFits }
 {
-    Ok(Act::Poke {
-        page: page_of(alloc, page)?,
-        word: word_named(word).ok_or(ActError::Bad)?,
-        value: parse_number(value, u64::MAX).ok_or(ActError::Bad)?,
-    })
+    let Some(word) = word_named(word) else {
+        return Err(ActError::Bad);
+    };
+    let Some(value) = parse_number(value, u64::MAX) else {
+        return Err(ActError::Bad);
+    };
+    let page = page_of(alloc, page)?;
+    Ok(Act::Poke { page, word, value })
 }
 
 /// Reads a number from `least` to `most`.
-fn number_from(least: u32, most: u32, word: &[u8]) -> Result<u32, ActError>
-    ensures number { Spells (λ n. n) result (number_from least most word.now) }
-    ensures within { IfOk result (λ n. (least ≤ n) × (n ≤ most)) }
+fn number_from(least: u32, most: u32, word: &[u8]) -> Option<u32>
+    ensures number { result ≡ number_from least most word.now }
+    ensures within { IfSome result (λ n. (least ≤ n) × (n ≤ most)) }
 {
-    let number = parse_number(word, u64::from(most)).ok_or(ActError::Bad)?;
+    let number = parse_number(word, u64::from(most))?;
     if u64::from(least) <= number {
-        Ok(number as u32)
+        Some(number as u32)
     } else {
-        Err(ActError::Bad)
+        None
     }
 }
 
@@ -242,11 +277,14 @@ fn data_page(alloc: Global, word: &[u8]) -> Result<ActPage, ActError>
     ensures page { Spells (λ page. page) result (data_page word.now) }
     ensures fits { IfOk result PageFits }
 {
-    let (peer, port) = colon_parts(word).ok_or(ActError::Bad)?;
-    Ok(ActPage::Payload {
-        peer: name_word(alloc, peer)?,
-        port: any_number(port).ok_or(ActError::Bad)?,
-    })
+    let Some((peer, port)) = colon_parts(word) else {
+        return Err(ActError::Bad);
+    };
+    let Some(port) = any_number(port) else {
+        return Err(ActError::Bad);
+    };
+    let peer = name_word(alloc, peer)?;
+    Ok(ActPage::Payload { peer, port })
 }
 
 /// Returns what stands before the first colon, and what stands after it.

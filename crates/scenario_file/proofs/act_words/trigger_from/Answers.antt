@@ -1,6 +1,6 @@
 use Rattle.std.proofs.Common.{refl}
 use Rattle.std.proofs.lemmas.Result.{err_from_is_err_and}
-use Rattle.scenario_file.specs.ActWords.{name_word, number_from, service_word}
+use Rattle.scenario_file.specs.ActWords.{name_word, service_word}
 use Rattle.scenario_file.proofs.ActLaws.{refused_part}
 use Rattle.scenario_file.proofs.act_words.trigger_from.Goals as goal
 
@@ -14,10 +14,5 @@ returns-in_err-service_word-clause-act c =
     let p = err_from_is_err_and c.from_residual-in_err-service_word.result c.from_residual-in_err-service_word.ensures.1 in
     rw (p.1, p.2) (refused_part c.in_err-service_word.field-0.0 (service_word c.args.service.now) _ (λ none. rw (c.in_ok-name_word.ensures.name, none) refl) c.in_err-service_word.ensures.service)
 
-pub returns-in_err-number_from-clause-act : goal.returns-in_err-number_from-clause-act
-returns-in_err-number_from-clause-act c =
-    let p = err_from_is_err_and c.from_residual-in_err-number_from.result c.from_residual-in_err-number_from.ensures.1 in
-    rw (p.1, p.2) (refused_part c.in_err-number_from.field-0.0 (number_from 1 64 c.args.count.now) _ (λ none. rw (c.in_ok-name_word.ensures.name, c.in_ok-service_word.ensures.service, none) refl) c.in_err-number_from.ensures.number)
-
 pub returns-clause-act : goal.returns-clause-act
-returns-clause-act c = rw (c.in_ok-name_word.ensures.name, c.in_ok-service_word.ensures.service, c.in_ok-number_from.ensures.number) refl
+returns-clause-act c = rw (c.in_ok-name_word.ensures.name, c.in_ok-service_word.ensures.service, ← c.in-Some.ensures.number) refl
