@@ -1,6 +1,6 @@
 -- Lists of a file, item by item.
 use Rattle.std.proofs.Common.{◌≡◌, ◌≢◌, ◌≤◌, ◌<◌, ℕ, ◌+◌, List, [], ◌∷◌, ◌++◌, length, drop, take, get_or, map, append-nil, string_bytes, refl, ap, sym, ◌∙◌, arith, Option, Some, None, Result, Ok, Err, Bool, true, false}
-use Rattle.std.specs.Prelude.{bytes_eq, filter, is_some, option_map}
+use Rattle.std.specs.Prelude.{bytes_eq, filter, is_some, not, option_map}
 use Rattle.std.specs.List.{All}
 use Rattle.std.specs.Map.{keys_of as map_keys}
 use Rattle.std.proofs.lemmas.List.Elements.{All-nil, All-push, filter-append}
@@ -10,7 +10,7 @@ use Rattle.toml.specs.declared.value.Value.{Value}
 use Rattle.toml.proofs.Views.{Entry, items_view-drop}
 use Rattle.scenario_file.specs.declared.scenario.Domain.{Domain}
 use Rattle.scenario_file.specs.declared.scenario.CallPlan.{CallPlan}
-use Rattle.scenario_file.specs.Scenario.{AreApart, place_named}
+use Rattle.scenario_file.specs.Scenario.{AreApart, place_named, targets_hostile}
 use Rattle.std.proofs.lemmas.List.{length_push, map-append, take_more}
 use Rattle.scenario_file.specs.declared.place.Section.TheVariants as section
 use Rattle.scenario_file.specs.Checks.{Fault, all_from, key_list, path_of}
@@ -154,10 +154,19 @@ kept_more p xs i x within same passes = rw (take_more xs i x within, filter-appe
 pub passed_over : {X : Type 0} (p : X → Bool) (xs : List X) (i : ℕ) (x : X) → i < length xs → x ≡ get_or xs i x → p x ≡ false → filter p (take (i + 1) xs) ≡ filter p (take i xs)
 passed_over p xs i x within same stays = rw (take_more xs i x within, filter-append p (take i xs) (get_or xs i x ∷ []), ← same, stays) (append-nil (filter p (take i xs)))
 
-pub made_more : {X Y : Type 0} (f : X → Y) (p : X → Bool) (xs : List X) (i : ℕ) (x : X) (before after : List Y) (y : Y) → i < length xs → x ≡ get_or xs i x → p x ≡ true
-    → before ≡ map f (filter p (take i xs)) → y ≡ f x → after ≡ before ++ y ∷ [] → after ≡ map f (filter p (take (i + 1) xs))
-made_more f p xs i x before after y within same passes so_far made pushed = rw (pushed, so_far, made, kept_more p xs i x within same passes, map-append f (filter p (take i xs)) (x ∷ [])) refl
+-- what is made of each call whose target isn't hostile
+abbrev pub made_of_plain : {Y : Type 0} → (CallPlan → Y) → List Domain → List CallPlan → List Y
+made_of_plain f domains calls = map f (filter (λ call. not (targets_hostile domains call)) calls)
 
-pub made_same : {X Y : Type 0} (f : X → Y) (p : X → Bool) (xs : List X) (i : ℕ) (x : X) (before : List Y) → i < length xs → x ≡ get_or xs i x → p x ≡ false
-    → before ≡ map f (filter p (take i xs)) → before ≡ map f (filter p (take (i + 1) xs))
-made_same f p xs i x before within same stays so_far = so_far ∙ ap (map f) (sym (passed_over p xs i x within same stays))
+-- over the calls up to a place: with the call at it, or without
+pub plain_more : {Y : Type 0} (f : CallPlan → Y) (domains : List Domain) (calls : List CallPlan) (i : ℕ) (call : CallPlan) (b : Bool) (before after : List Y) (y : Y) → i < length calls
+    → call ≡ get_or calls i call → b ≡ targets_hostile domains call → b ≡ false → before ≡ made_of_plain f domains (take i calls) → y ≡ f call → after ≡ before ++ y ∷ []
+    → after ≡ made_of_plain f domains (take (i + 1) calls)
+plain_more f domains calls i call b before after y within same is plain so_far made pushed =
+    let stays = λ (c : CallPlan). not (targets_hostile domains c) in
+    rw (pushed, so_far, made, kept_more stays calls i call within same (ap not (sym is ∙ plain)), map-append f (filter stays (take i calls)) (call ∷ [])) refl
+
+pub mixed_over : {Y : Type 0} (f : CallPlan → Y) (domains : List Domain) (calls : List CallPlan) (i : ℕ) (call : CallPlan) (b : Bool) (before : List Y) → i < length calls
+    → call ≡ get_or calls i call → b ≡ targets_hostile domains call → b ≡ true → before ≡ made_of_plain f domains (take i calls) → before ≡ made_of_plain f domains (take (i + 1) calls)
+mixed_over f domains calls i call b before within same is mixed so_far =
+    so_far ∙ ap (map f) (sym (passed_over (λ (c : CallPlan). not (targets_hostile domains c)) calls i call within same (ap not (sym is ∙ mixed))))

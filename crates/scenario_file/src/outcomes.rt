@@ -33,9 +33,10 @@ fn lines_among(alloc: Global, domains: &[Domain], calls: &[CallPlan]) -> Result<
 {
     let mut lines = Vec::new(alloc);
     for call in calls {
-        if !targets_hostile(domains, call) {
-            lines.push(line_of(alloc, domains, call)?)?;
+        if targets_hostile(domains, call) {
+            continue;
         }
+        lines.push(line_of(alloc, domains, call)?)?;
     }
     Ok(lines)
 }

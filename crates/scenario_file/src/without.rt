@@ -37,9 +37,10 @@ fn honest_domains(alloc: Global, domains: &[Domain]) -> Result<Vec<Domain>, Memo
 {
     let mut left = Vec::new(alloc);
     for domain in domains {
-        if !domain.is_hostile() {
-            left.push(copy_of_honest(domain)?)?;
+        if domain.is_hostile() {
+            continue;
         }
+        left.push(copy_of_honest(domain)?)?;
     }
     Ok(left)
 }
@@ -57,9 +58,10 @@ fn calls_left(
 {
     let mut left = Vec::new(alloc);
     for call in calls {
-        if !targets_hostile(domains, call) {
-            left.push(call_left(alloc, domains, call)?)?;
+        if targets_hostile(domains, call) {
+            continue;
         }
+        left.push(call_left(alloc, domains, call)?)?;
     }
     Ok(left)
 }
