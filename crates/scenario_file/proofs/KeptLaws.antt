@@ -4,6 +4,7 @@ use Rattle.std.specs.Prelude.{true, false, Bool, not, bytes_eq, filter, option_m
 use Rattle.std.specs.Option.{option_map_or}
 use Rattle.std.specs.List.{AllByRecursion}
 use Rattle.std.proofs.lemmas.List.Elements.{All-filter, All-map, All-weaker, recursion_from_All}
+use Rattle.std.proofs.lemmas.List.{length-map}
 use Rattle.std.proofs.Math.Nat.{mul-le-mul_right}
 use Rattle.std.proofs.lemmas.List.Sums.{sum_by-cons, length-filter, count_by-le-length}
 use Rattle.ring_words.specs.Page.{word_count}
@@ -34,12 +35,9 @@ rises_left domains a (call ∷ calls) h = by_mixed (targets_hostile domains call
     by_mixed false is more = rw is (h.0, more)
 
 length_left : (domains : List Domain) (calls : List CallPlan) → length (calls_left domains calls) ≤ length calls
-length_left domains [] = omega arith
-length_left domains (call ∷ calls) = by_mixed (targets_hostile domains call) refl (length_left domains calls)
-  where
-    by_mixed : (b : Bool) → targets_hostile domains call ≡ b → length (calls_left domains calls) ≤ length calls → length (calls_left domains (call ∷ calls)) ≤ length (call ∷ calls)
-    by_mixed true is more = rw is (omega (arith, more))
-    by_mixed false is more = rw is (omega (arith, more))
+length_left domains calls =
+    let plain = λ (call : CallPlan). not (targets_hostile domains call) in
+    omega (arith, length-map (filter plain calls) (call_left domains), length-filter plain calls, count_by-le-length plain calls)
 
 stdin_left : (domains : List Domain) (calls : List CallPlan) → stdin_total (calls_left domains calls) ≤ stdin_total calls
 stdin_left domains [] = omega arith
