@@ -50,19 +50,21 @@ chunk_over a = by_over (is_over a)
     by_over true = by_code a.code
     by_over false = refl
 
--- a side whose bytes were borrowed is the same one, and at work and answering as before
-pub lent_same : (old lent : ServingState Builtin) (piece : List ℕ) → old.answering.outcome ≡ None → LendsAnswers builtin_owes old lent piece → Same old.answering lent.answering
-lent_same old lent piece none lends =
-    let next = packed_on old.answering.version old.answering in
-    subst (λ a. Same old.answering a) (sym (ap (λ s. s.answering) lends.new_is ∙ ap (λ o. if is_none o then next else old.answering) none)) (same_packed old.answering.version old.answering)
+-- a side that nothing has decided yet, and whose bytes are borrowed to go into its end
+pub record IsLent (old lent : ServingState Builtin) (end : SeatedEnd) (piece : List ℕ) : Type 0 where
+  pub undecided : old.answering.outcome ≡ None
+  pub lends : LendsAnswers builtin_owes old lent piece
+  pub work : IsAtWork old end
 
-pub lent_works : (old lent : ServingState Builtin) (end end' : SeatedEnd) (piece : List ℕ) → old.answering.outcome ≡ None → LendsAnswers builtin_owes old lent piece → (view end').idle ≡ true → (view end').state ≡ (view end).state
-    → (view end').ended ≡ (view end).ended → IsAtWork old end → IsAtWork lent end'
-lent_works old lent end end' piece none lends idle state ended work =
-    let same = lent_same old lent piece none lends in
-    let going : EndsBy None (view end) = subst (λ o. EndsBy o (view end)) none work.ends in
-    let now : EndsBy None (view end') = (state ∙ going.0, ended ∙ going.1) in
-    record { chunk_is = same.chunk ∙ work.chunk_is; idle = idle; ends = subst (λ o. EndsBy o (view end')) (sym (same.outcome ∙ none)) now }
+-- it is the same one
+pub lent_same : (old lent : ServingState Builtin) (end : SeatedEnd) (piece : List ℕ) → IsLent old lent end piece → Same old.answering lent.answering
+lent_same old lent end piece h =
+    let next = packed_on old.answering.version old.answering in
+    subst (λ a. Same old.answering a) (sym (ap (λ s. s.answering) h.lends.new_is ∙ ap (λ o. if is_none o then next else old.answering) h.undecided)) (same_packed old.answering.version old.answering)
+
+-- its end goes on as it is
+going_on : (serving : ServingState Builtin) (end : SeatedEnd) → serving.answering.outcome ≡ None → IsAtWork serving end → EndsBy None (view end)
+going_on serving end undecided work = subst (λ o. EndsBy o (view end)) undecided work.ends
 
 pub on_answers : (owed : List ℕ → Triple) (old new : ServingState Builtin) (end end' : SeatedEnd) → new.inbox.got ≡ old.inbox.got → ((sent : List ℕ) → ServingStandsFor builtin_owes owed old sent → ServingStandsFor builtin_owes owed new sent)
     → (view end').got ≡ (view end).got → (view end').sent ≡ (view end).sent → IsAnswering owed old end → IsAnswering owed new end'
@@ -71,37 +73,41 @@ on_answers owed old new end end' same stands got sent h = record {
   stands = subst (λ l. ServingStandsFor builtin_owes owed new l) (sym sent) (stands (view end).sent h.stands);
 }
 
-pub lent_answers : (owed : List ℕ → Triple) (old lent : ServingState Builtin) (end end' : SeatedEnd) (piece : List ℕ) → LendsAnswers builtin_owes old lent piece → (view end').got ≡ (view end).got → (view end').sent ≡ (view end).sent
-    → IsAnswering owed old end → IsAnswering owed lent end'
-lent_answers owed old lent end end' piece lends got sent h = on_answers owed old lent end end' (ap (λ s. s.inbox.got) lends.new_is) (λ l stands. lends.stands owed l stands) got sent h
+-- if none of them goes, it is at work and answering as before
+pub lent_works : (old lent : ServingState Builtin) (end end' : SeatedEnd) (piece : List ℕ) (saw : Bool) → IsLent old lent end piece → view end' ≡ record (view end) { saw = saw } → IsAtWork lent end'
+lent_works old lent end end' piece saw h view_is =
+    let same = lent_same old lent end piece h in
+    let going = going_on old end h.undecided h.work in
+    let now : EndsBy None (view end') = (ap (λ v. v.state) view_is ∙ going.0, ap (λ v. v.ended) view_is ∙ going.1) in
+    record { chunk_is = same.chunk ∙ h.work.chunk_is; idle = ap (λ v. v.idle) view_is ∙ h.work.idle; ends = subst (λ o. EndsBy o (view end')) (sym (same.outcome ∙ h.undecided)) now }
 
--- and so is one whose bytes went
-pub went_answers : (owed : List ℕ → Triple) (old lent new : ServingState Builtin) (end end' : SeatedEnd) (piece : List ℕ) (count : ℕ) → old.answering.outcome ≡ None → LendsAnswers builtin_owes old lent piece
+pub lent_answers : (owed : List ℕ → Triple) (old lent : ServingState Builtin) (end end' : SeatedEnd) (piece : List ℕ) (saw : Bool) → IsLent old lent end piece → view end' ≡ record (view end) { saw = saw }
+    → IsAnswering owed old end → IsAnswering owed lent end'
+lent_answers owed old lent end end' piece saw h view_is answering =
+    on_answers owed old lent end end' (ap (λ s. s.inbox.got) h.lends.new_is) (h.lends.stands owed) (ap (λ v. v.got) view_is) (ap (λ v. v.sent) view_is) answering
+
+-- and if some go, so it is too
+pub went_answers : (owed : List ℕ → Triple) (old lent new : ServingState Builtin) (end end' : SeatedEnd) (piece : List ℕ) (count : ℕ) → IsLent old lent end piece
     → new ≡ record lent { answering = after_gone count lent.answering } → ((sent : List ℕ) → ServingStandsFor builtin_owes owed lent sent → ServingStandsFor builtin_owes owed new (sent ++ take count lent.answering.waiting))
-    → (view end').got ≡ (view end).got → (view end').sent ≡ (view end).sent ++ take count piece → IsAnswering owed old end → IsAnswering owed new end'
-went_answers owed old lent new end end' piece count none lends new_is stands got sent h =
-    let waits : piece ≡ lent.answering.waiting = lends.piece_is ∙ ap (λ o. if is_none o then lent.answering.waiting else []) none in
+    → view end' ≡ record (view end) { sent = (view end).sent ++ take count piece } → IsAnswering owed old end → IsAnswering owed new end'
+went_answers owed old lent new end end' piece count h new_is stands view_is answering =
+    let waits : piece ≡ lent.answering.waiting = h.lends.piece_is ∙ ap (λ o. if is_none o then lent.answering.waiting else []) h.undecided in
     record {
-      got = ap (λ s. s.inbox.got) new_is ∙ ap (λ s. s.inbox.got) lends.new_is ∙ h.got ∙ sym got;
-      stands = subst (λ l. ServingStandsFor builtin_owes owed new l) (sym (sent ∙ ap (λ p. (view end).sent ++ take count p) waits)) (stands (view end).sent (lends.stands owed (view end).sent h.stands));
+      got = ap (λ s. s.inbox.got) new_is ∙ ap (λ s. s.inbox.got) h.lends.new_is ∙ answering.got ∙ sym (ap (λ v. v.got) view_is);
+      stands = subst (λ l. ServingStandsFor builtin_owes owed new l) (sym (ap (λ v. v.sent) view_is ∙ ap (λ p. (view end).sent ++ take count p) waits)) (stands (view end).sent (h.lends.stands owed (view end).sent answering.stands));
     }
 
--- a side whose bytes were borrowed, and that was told how many of them went, is at work with its end
-pub works_on : (old lent new : ServingState Builtin) (end end' : SeatedEnd) (piece : List ℕ) (count : ℕ) → IsAtWork old end → old.answering.outcome ≡ None → LendsAnswers builtin_owes old lent piece
-    → new ≡ record lent { answering = after_gone count lent.answering } → (view end').idle ≡ true → (view end').state ≡ (view end).state → (view end').ended ≡ (view end).ended → IsAtWork new end'
-works_on old lent new end end' piece count work none lends new_is idle state ended =
-    let next = packed_on old.answering.version old.answering in
-    let packed : lent.answering ≡ next = ap (λ s. s.answering) lends.new_is ∙ ap (λ o. if is_none o then next else old.answering) none in
-    let same = same_packed old.answering.version old.answering in
-    let outcome : lent.answering.outcome ≡ None = ap (λ a. a.outcome) packed ∙ same.outcome ∙ none in
-    let size : lent.answering.chunk ≡ chunk = ap (λ a. a.chunk) packed ∙ same.chunk ∙ work.chunk_is in
+pub went_works : (old lent new : ServingState Builtin) (end end' : SeatedEnd) (piece : List ℕ) (count : ℕ) → IsLent old lent end piece → new ≡ record lent { answering = after_gone count lent.answering }
+    → view end' ≡ record (view end) { sent = (view end).sent ++ take count piece } → IsAtWork new end'
+went_works old lent new end end' piece count h new_is view_is =
+    let same = lent_same old lent end piece h in
     let a = record lent.answering { waiting = drop count lent.answering.waiting } in
-    let going : EndsBy None (view end) = subst (λ o. EndsBy o (view end)) none work.ends in
-    let now : EndsBy None (view end') = (state ∙ going.0, ended ∙ going.1) in
+    let going = going_on old end h.undecided h.work in
+    let now : EndsBy None (view end') = (ap (λ v. v.state) view_is ∙ going.0, ap (λ v. v.ended) view_is ∙ going.1) in
     record {
-      chunk_is = ap (λ s. s.answering.chunk) new_is ∙ chunk_over a ∙ size;
-      idle = idle;
-      ends = subst (λ o. EndsBy o (view end')) (sym (ap (λ s. s.answering.outcome) new_is)) (ends_over a (view end') outcome now);
+      chunk_is = ap (λ s. s.answering.chunk) new_is ∙ chunk_over a ∙ same.chunk ∙ h.work.chunk_is;
+      idle = ap (λ v. v.idle) view_is ∙ h.work.idle;
+      ends = subst (λ o. EndsBy o (view end')) (sym (ap (λ s. s.answering.outcome) new_is)) (ends_over a (view end') (same.outcome ∙ h.undecided) now);
     }
 
 -- ---- its end

@@ -61,34 +61,43 @@ keeps_packed (Some version) r =
     (keeps_if r.closed r _ _ (record { chunk = refl; input = refl }) (keeps_if (nat_lt r.packed (length r.input)) r _ _ (record { chunk = refl; input = refl }) (record { chunk = refl; input = refl })))
     (record { chunk = refl; input = refl })
 
--- a caller whose bytes were borrowed has the same input, and stands for the same as before
-pub lent_keeps : (old lent : CallerState) (piece : List ℕ) → old.replies.outcome ≡ None → LendsRequests old lent piece → KeepsInput old.requests lent.requests
-lent_keeps old lent piece none lends =
-    let next = packed_on old.replies.version old.requests in
-    subst (λ r. KeepsInput old.requests r) (sym (ap (λ k. k.requests) lends.new_is ∙ ap (λ o. if is_none o then next else old.requests) none)) (keeps_packed old.replies.version old.requests)
+-- a caller that nothing has decided yet, and whose bytes are borrowed to go into its end
+pub record IsLent (old lent : CallerState) (end : SeatedEnd) (piece : List ℕ) : Type 0 where
+  pub undecided : old.replies.outcome ≡ None
+  pub lends : LendsRequests old lent piece
+  pub calling : IsCalling old end
 
-pub lent_calls : (old lent : CallerState) (end end' : SeatedEnd) (piece : List ℕ) → old.replies.outcome ≡ None → LendsRequests old lent piece → (view end').got ≡ (view end).got → (view end').sent ≡ (view end).sent → (view end').ended ≡ (view end).ended
-    → IsOpen end' → IsCalling old end → IsCalling lent end'
-lent_calls old lent end end' piece none lends got sent ended is_open h = record {
-  chunk_is = (lent_keeps old lent piece none lends).chunk ∙ h.chunk_is;
-  got = ap (λ k. k.inbox.got) lends.new_is ∙ h.got ∙ sym got;
-  stands = subst (λ l. CallerStandsFor lent l) (sym sent) (lends.stands (view end).sent h.stands);
+-- it has the same input and the same version of its own, and stands for the same as before
+pub lent_keeps : (old lent : CallerState) (end : SeatedEnd) (piece : List ℕ) → IsLent old lent end piece → KeepsInput old.requests lent.requests × (lent.replies.own ≡ old.replies.own)
+lent_keeps old lent end piece h =
+    let next = packed_on old.replies.version old.requests in
+    let new_is = h.lends.new_is in (
+      subst (λ r. KeepsInput old.requests r) (sym (ap (λ k. k.requests) new_is ∙ ap (λ o. if is_none o then next else old.requests) h.undecided)) (keeps_packed old.replies.version old.requests),
+      ap (λ k. k.replies.own) new_is,
+    )
+
+-- if none of them goes
+pub lent_calls : (old lent : CallerState) (end end' : SeatedEnd) (piece : List ℕ) (saw : Bool) → IsLent old lent end piece → view end' ≡ record (view end) { saw = saw } → IsOpen end' → IsCalling lent end'
+lent_calls old lent end end' piece saw h view_is is_open = record {
+  chunk_is = (lent_keeps old lent end piece h).0.chunk ∙ h.calling.chunk_is;
+  got = ap (λ k. k.inbox.got) h.lends.new_is ∙ h.calling.got ∙ sym (ap (λ v. v.got) view_is);
+  stands = subst (λ l. CallerStandsFor lent l) (sym (ap (λ v. v.sent) view_is)) (h.lends.stands (view end).sent h.calling.stands);
   is_open = is_open;
-  ends = subst (λ o. EndsBy o (view end')) (sym (ap (λ k. k.replies.outcome) lends.new_is ∙ none)) (ended ∙ subst (λ o. EndsBy o (view end)) none h.ends);
+  ends = subst (λ o. EndsBy o (view end')) (sym (ap (λ k. k.replies.outcome) h.lends.new_is ∙ h.undecided)) (ap (λ v. v.ended) view_is ∙ subst (λ o. EndsBy o (view end)) h.undecided h.calling.ends);
 }
 
--- and so does one whose bytes went
-pub went_calls : (old lent new : CallerState) (end end' : SeatedEnd) (piece : List ℕ) (count : ℕ) → old.replies.outcome ≡ None → LendsRequests old lent piece
+-- and if some go
+pub went_calls : (old lent new : CallerState) (end end' : SeatedEnd) (piece : List ℕ) (count : ℕ) → IsLent old lent end piece
     → new ≡ record lent { requests = record lent.requests { waiting = drop count lent.requests.waiting } } → ((sent : List ℕ) → CallerStandsFor lent sent → CallerStandsFor new (sent ++ take count lent.requests.waiting))
-    → (view end').got ≡ (view end).got → (view end').sent ≡ (view end).sent ++ take count piece → (view end').ended ≡ (view end).ended → IsOpen end' → IsCalling old end → IsCalling new end'
-went_calls old lent new end end' piece count none lends new_is stands got sent ended is_open h =
-    let waits : piece ≡ lent.requests.waiting = lends.piece_is ∙ ap (λ o. if is_none o then lent.requests.waiting else []) none in
+    → view end' ≡ record (view end) { sent = (view end).sent ++ take count piece } → IsOpen end' → IsCalling new end'
+went_calls old lent new end end' piece count h new_is stands view_is is_open =
+    let waits : piece ≡ lent.requests.waiting = h.lends.piece_is ∙ ap (λ o. if is_none o then lent.requests.waiting else []) h.undecided in
     record {
-      chunk_is = ap (λ k. k.requests.chunk) new_is ∙ (lent_keeps old lent piece none lends).chunk ∙ h.chunk_is;
-      got = ap (λ k. k.inbox.got) new_is ∙ ap (λ k. k.inbox.got) lends.new_is ∙ h.got ∙ sym got;
-      stands = subst (λ l. CallerStandsFor new l) (sym (sent ∙ ap (λ p. (view end).sent ++ take count p) waits)) (stands (view end).sent (lends.stands (view end).sent h.stands));
+      chunk_is = ap (λ k. k.requests.chunk) new_is ∙ (lent_keeps old lent end piece h).0.chunk ∙ h.calling.chunk_is;
+      got = ap (λ k. k.inbox.got) new_is ∙ ap (λ k. k.inbox.got) h.lends.new_is ∙ h.calling.got ∙ sym (ap (λ v. v.got) view_is);
+      stands = subst (λ l. CallerStandsFor new l) (sym (ap (λ v. v.sent) view_is ∙ ap (λ p. (view end).sent ++ take count p) waits)) (stands (view end).sent (h.lends.stands (view end).sent h.calling.stands));
       is_open = is_open;
-      ends = subst (λ o. EndsBy o (view end')) (sym (ap (λ k. k.replies.outcome) new_is ∙ ap (λ k. k.replies.outcome) lends.new_is ∙ none)) (ended ∙ subst (λ o. EndsBy o (view end)) none h.ends);
+      ends = subst (λ o. EndsBy o (view end')) (sym (ap (λ k. k.replies.outcome) new_is ∙ ap (λ k. k.replies.outcome) h.lends.new_is ∙ h.undecided)) (ap (λ v. v.ended) view_is ∙ subst (λ o. EndsBy o (view end)) h.undecided h.calling.ends);
     }
 
 -- ---- how a call came out

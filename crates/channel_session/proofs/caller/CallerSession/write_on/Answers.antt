@@ -1,12 +1,26 @@
-use Rattle.std.proofs.Common.{refl, ap, drop, ◌∙◌, sym, subst, inr, rules}
-use Rattle.end_view.specs.EndView.{EndView}
-use Rattle.qrexec_data.specs.CallerSide.{CallerState, LendsRequests}
-use Rattle.channel_session.specs.Calling.{CallerAt, IsCalling}
-use Rattle.channel_session.specs.Turning.{RingIsFull}
-use Rattle.channel_session.proofs.TurningLaws.{told_ok, none_from, finds_full, finds_shut}
-use Rattle.channel_session.proofs.CallingLaws.{lent_keeps, lent_calls, went_calls}
-use Rattle.channel_session.proofs.caller.CallerSession.write_on.Goals as goal
+use Rattle.std.proofs.Common.{refl, ap, ◌∙◌, sym, subst, inr, true, rules}
+use Rattle.vchan_rule.specs.Seated.{SeatedEnd, view}
 use Rattle.vchan_rule.specs.Called.{most_asked}
+use Rattle.qrexec_data.specs.CallerSide.{CallerState, LendsRequests}
+use Rattle.channel_session.specs.Calling.{CallerAt, IsCalling, IsSameCall}
+use Rattle.channel_session.specs.Turning.{Pace, RingIsFull}
+use Rattle.channel_session.proofs.TurningLaws.{told_ok, none_from, finds_full, finds_shut}
+use Rattle.channel_session.proofs.CallingLaws.{IsLent, lent_keeps, lent_calls, went_calls}
+use Rattle.channel_session.proofs.caller.CallerSession.write_on.Goals.{After-write}
+use Rattle.channel_session.proofs.caller.CallerSession.write_on.Goals as goal
+
+-- the caller lent its bytes to the write, and is the same call
+lent : (c : After-write) → IsLent c.self.inside.caller c.front.follows.lender-at-none c.self.inside.end c.in_ok-piece.piece.now
+lent c = record {
+  undecided = sym c.outcome.ensures ∙ none_from c.outcome.result (sym c.is_some.ensures ∙ c.if-is_some.false);
+  lends = told_ok (λ p. LendsRequests c.self.inside.caller c.front.follows.lender-at-none p.now) c.front.result c.in_ok-piece.piece c.in_ok-piece.was c.front.follows.holds-at-none;
+  calling = subst (λ (s : CallerAt). IsCalling s.caller s.end) (sym c.self.view_is) c.requires.calling;
+}
+
+same : (c : After-write) (end : SeatedEnd) (pace : Pace) → IsSameCall c.args.self.now (record { caller = c.front.follows.lender-at-none; end = end; pace = pace })
+same c end pace =
+    let kept = lent_keeps c.self.inside.caller c.front.follows.lender-at-none c.self.inside.end c.in_ok-piece.piece.now (lent c) in
+    record { input = kept.0.input ∙ ap (λ (s : CallerAt). s.caller.requests.input) c.self.view_is; own = kept.1 ∙ ap (λ (s : CallerAt). s.caller.replies.own) c.self.view_is }
 
 pub returns-in-Full-clause-went : goal.returns-in-Full-clause-went
 returns-in-Full-clause-went c = (
@@ -23,67 +37,22 @@ returns-in-PeerClosed-clause-shut c = (
 )
 
 pub returns-in-Full-clause-calling : goal.returns-in-Full-clause-calling
-returns-in-Full-clause-calling c =
-    let was = c.self.inside in
-    let lent = c.front.follows.lender-at-none in
-    let piece = c.in_ok-piece.piece.now in
-    let lends = told_ok (λ p. LendsRequests was.caller lent p.now) c.front.result c.in_ok-piece.piece c.in_ok-piece.was c.front.follows.holds-at-none in
-    let none = sym c.outcome.ensures ∙ none_from c.outcome.result (sym c.is_some.ensures ∙ c.if-is_some.false) in
-    lent_calls was.caller lent was.end c.write.new.end piece none lends (ap (λ (e : EndView). e.got) c.in-Full.ensures.view) (ap (λ (e : EndView). e.sent) c.in-Full.ensures.view) (ap (λ (e : EndView). e.ended) c.in-Full.ensures.view) c.write.ensures.«open»
-    (subst (λ (s : CallerAt). IsCalling s.caller s.end) (sym c.self.view_is) c.requires.calling)
+returns-in-Full-clause-calling c = lent_calls _ _ _ _ _ (view c.self.inside.end).saw (lent (goal.at.returns-in-Full-clause-calling c).After-write) c.in-Full.ensures.view c.write.ensures.«open»
 
 pub returns-in-Full-clause-same : goal.returns-in-Full-clause-same
-returns-in-Full-clause-same c =
-    let was = c.self.inside in
-    let lent = c.front.follows.lender-at-none in
-    let piece = c.in_ok-piece.piece.now in
-    let lends = told_ok (λ p. LendsRequests was.caller lent p.now) c.front.result c.in_ok-piece.piece c.in_ok-piece.was c.front.follows.holds-at-none in
-    let none = sym c.outcome.ensures ∙ none_from c.outcome.result (sym c.is_some.ensures ∙ c.if-is_some.false) in
-    record {
-      input = (lent_keeps was.caller lent piece none lends).input ∙ ap (λ (s : CallerAt). s.caller.requests.input) c.self.view_is;
-      own = ap (λ (k : CallerState). k.replies.own) lends.new_is ∙ ap (λ (s : CallerAt). s.caller.replies.own) c.self.view_is;
-    }
+returns-in-Full-clause-same c = same (goal.at.returns-in-Full-clause-same c).After-write _ _
 
 pub returns-in-PeerClosed-clause-calling : goal.returns-in-PeerClosed-clause-calling
-returns-in-PeerClosed-clause-calling c =
-    let was = c.self.inside in
-    let lent = c.front.follows.lender-at-none in
-    let piece = c.in_ok-piece.piece.now in
-    let lends = told_ok (λ p. LendsRequests was.caller lent p.now) c.front.result c.in_ok-piece.piece c.in_ok-piece.was c.front.follows.holds-at-none in
-    let none = sym c.outcome.ensures ∙ none_from c.outcome.result (sym c.is_some.ensures ∙ c.if-is_some.false) in
-    lent_calls was.caller lent was.end c.write.new.end piece none lends (ap (λ (e : EndView). e.got) c.in-PeerClosed.ensures.view) (ap (λ (e : EndView). e.sent) c.in-PeerClosed.ensures.view) (ap (λ (e : EndView). e.ended) c.in-PeerClosed.ensures.view) c.write.ensures.«open»
-    (subst (λ (s : CallerAt). IsCalling s.caller s.end) (sym c.self.view_is) c.requires.calling)
+returns-in-PeerClosed-clause-calling c = lent_calls _ _ _ _ _ true (lent (goal.at.returns-in-PeerClosed-clause-calling c).After-write) c.in-PeerClosed.ensures.view c.write.ensures.«open»
 
 pub returns-in-PeerClosed-clause-same : goal.returns-in-PeerClosed-clause-same
-returns-in-PeerClosed-clause-same c =
-    let was = c.self.inside in
-    let lent = c.front.follows.lender-at-none in
-    let piece = c.in_ok-piece.piece.now in
-    let lends = told_ok (λ p. LendsRequests was.caller lent p.now) c.front.result c.in_ok-piece.piece c.in_ok-piece.was c.front.follows.holds-at-none in
-    let none = sym c.outcome.ensures ∙ none_from c.outcome.result (sym c.is_some.ensures ∙ c.if-is_some.false) in
-    record {
-      input = (lent_keeps was.caller lent piece none lends).input ∙ ap (λ (s : CallerAt). s.caller.requests.input) c.self.view_is;
-      own = ap (λ (k : CallerState). k.replies.own) lends.new_is ∙ ap (λ (s : CallerAt). s.caller.replies.own) c.self.view_is;
-    }
+returns-in-PeerClosed-clause-same c = same (goal.at.returns-in-PeerClosed-clause-same c).After-write _ _
 
 pub returns-in-Wrote-clause-calling : goal.returns-in-Wrote-clause-calling
 returns-in-Wrote-clause-calling c =
-    let was = c.self.inside in
-    let lent = c.front.follows.lender-at-none in
-    let piece = c.in_ok-piece.piece.now in
-    let lends = told_ok (λ p. LendsRequests was.caller lent p.now) c.front.result c.in_ok-piece.piece c.in_ok-piece.was c.front.follows.holds-at-none in
-    let none = sym c.outcome.ensures ∙ none_from c.outcome.result (sym c.is_some.ensures ∙ c.if-is_some.false) in
-    went_calls was.caller lent c.advance.new.self was.end c.write.new.end piece c.in-Wrote.count none lends c.advance.ensures.gone (λ sent stands. c.advance.ensures.stands sent stands) (ap (λ (e : EndView). e.got) c.in-Wrote.ensures.view)
-    (ap (λ (e : EndView). e.sent) c.in-Wrote.ensures.view) (ap (λ (e : EndView). e.ended) c.in-Wrote.ensures.view) c.write.ensures.«open» (subst (λ (s : CallerAt). IsCalling s.caller s.end) (sym c.self.view_is) c.requires.calling)
+    went_calls _ _ _ _ _ _ c.in-Wrote.count (lent (goal.at.returns-in-Wrote-clause-calling c).After-write) c.advance.ensures.gone c.advance.ensures.stands c.in-Wrote.ensures.view c.write.ensures.«open»
 
 pub returns-in-Wrote-clause-same : goal.returns-in-Wrote-clause-same
 returns-in-Wrote-clause-same c =
-    let was = c.self.inside in
-    let lent = c.front.follows.lender-at-none in
-    let piece = c.in_ok-piece.piece.now in
-    let lends = told_ok (λ p. LendsRequests was.caller lent p.now) c.front.result c.in_ok-piece.piece c.in_ok-piece.was c.front.follows.holds-at-none in
-    let none = sym c.outcome.ensures ∙ none_from c.outcome.result (sym c.is_some.ensures ∙ c.if-is_some.false) in
-    record {
-      input = ap (λ (k : CallerState). k.requests.input) c.advance.ensures.gone ∙ (lent_keeps was.caller lent piece none lends).input ∙ ap (λ (s : CallerAt). s.caller.requests.input) c.self.view_is;
-      own = ap (λ (k : CallerState). k.replies.own) (c.advance.ensures.gone ∙ ap (λ (k : CallerState). record k { requests = record k.requests { waiting = drop c.in-Wrote.count k.requests.waiting } }) lends.new_is) ∙ ap (λ (s : CallerAt). s.caller.replies.own) c.self.view_is;
-    }
+    let still = same (goal.at.returns-in-Wrote-clause-same c).After-write c.write.new.end c.args.self.now.pace in
+    record { input = ap (λ (k : CallerState). k.requests.input) c.advance.ensures.gone ∙ still.input; own = ap (λ (k : CallerState). k.replies.own) c.advance.ensures.gone ∙ still.own }
