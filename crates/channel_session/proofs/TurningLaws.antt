@@ -14,6 +14,7 @@ use Rattle.vchan_stream.specs.declared.WriteAnswer.{WriteAnswer}
 use Rattle.vchan_stream.specs.declared.WriteAnswer.TheVariants.{Full as IsFull, PeerClosed as IsShut}
 use Rattle.vchan_stream.specs.Stream.{write_told}
 use Rattle.service_gate.specs.Owing.{builtin_owes}
+use Rattle.qrexec_data.specs.declared.outcome.Outcome.{Outcome}
 use Rattle.qrexec_data.specs.CallerSide.{IsStill}
 use Rattle.qrexec_data.specs.ServingSide.{ServingStandsFor, IsStill as ServingStill}
 use Rattle.end_view.specs.EndView.{EndView}
@@ -23,7 +24,7 @@ use Rattle.vchan_rule.specs.Called.{most_asked as asked_most, most_asked}
 use Rattle.vchan_rule.proofs.EndLaws.{same_end_then}
 use Rattle.channel_session.specs.Calling.{CallerAt, CallerTurns, CallerReads, CallerWrites}
 use Rattle.channel_session.specs.Answering.{ServingAt, ServingTurns, ServingReads, ServingWrites, HasNothing}
-use Rattle.channel_session.specs.Turning.{Pace, IsMade, KeepsBytes, FindsFull, FindsShut, SendsNone, NothingWaits, WasShut, RingIsFull, PeerIsShut, KeepsShut, turned_by}
+use Rattle.channel_session.specs.Turning.{Pace, IsMade, KeepsBytes, HasMoved, FindsFull, FindsShut, SendsNone, NothingWaits, WasShut, RingIsFull, PeerIsShut, IsQuiet, KeepsShut, turned_by}
 
 -- ---- what one call found
 
@@ -68,7 +69,7 @@ sends_as P Q waiting shut shut' before now f same (RingIsFull some full) = RingI
 sends_as P Q waiting shut shut' before now f same (PeerIsShut some found) = PeerIsShut some found
 
 -- the bytes of an end after both halves of a turn that moved something
-pub turn_keeps : (v a b c : EndView) → a ≡ v → length a.got ≤ length b.got → b.sent ≡ a.sent → c.got ≡ b.got → length b.sent ≤ length c.sent → KeepsBytes v c
+turn_keeps : (v a b c : EndView) → a ≡ v → length a.got ≤ length b.got → b.sent ≡ a.sent → c.got ≡ b.got → length b.sent ≤ length c.sent → KeepsBytes v c
 turn_keeps v a b c is came sent got went = subst (λ (e : EndView). KeepsBytes e c) is (record {
   got = let same = ap (λ (l : List ℕ). length l) got in omega (arith, came, same);
   sent = let same = ap (λ (l : List ℕ). length l) sent in omega (arith, went, same);
@@ -77,6 +78,36 @@ turn_keeps v a b c is came sent got went = subst (λ (e : EndView). KeepsBytes e
 -- as many bytes as before
 as_long : (xs ys : List ℕ) → ys ≡ xs → length xs ≤ length ys
 as_long xs ys same = let long = ap (λ (l : List ℕ). length l) same in omega (arith, long)
+
+-- a turn whose first half moved something
+by_read : (v a b c : EndView) (over over' : Option Outcome) → a ≡ v → length a.got ≤ length b.got → (length a.got < length b.got) ⊎ IsSome over → b.sent ≡ a.sent → c.got ≡ b.got → length b.sent ≤ length c.sent
+    → (IsSome over → IsSome over') → HasMoved v c over'
+by_read v a b c over over' is came more sent got went stays = record { kept = turn_keeps v a b c is came sent got went; more = by_more more }
+  where
+    by_more : (length a.got < length b.got) ⊎ IsSome over → (length v.got < length c.got) ⊎ (length v.sent < length c.sent) ⊎ IsSome over'
+    by_more (inl more) = inl (subst (λ e. length e.got < length c.got) is (subst (λ g. length a.got < length g) (sym got) more))
+    by_more (inr some) = inr (inr (stays some))
+
+-- one whose second half alone did
+by_write : (v a b c : EndView) (over : Option Outcome) → a ≡ v → b.got ≡ a.got → b.sent ≡ a.sent → c.got ≡ b.got → length b.sent < length c.sent → HasMoved v c over
+by_write v a b c over is read sent got more = record {
+  kept = turn_keeps v a b c is (as_long a.got b.got read) sent got (omega (arith, more));
+  more = inr (inl (subst (λ s. length s < length c.sent) (sent ∙ ap (λ e. e.sent) is) more));
+}
+
+-- and one in which neither did
+by_none : (P Q : Type 0) (waiting : List ℕ) (shut shut' : Bool) (old found left now : SeatedEnd) → IsSameEnd old found → IsSameEnd found left → IsSameEnd left now → view found ≡ view old → FindsNotYet found left
+    → (P → Q) → shut ≡ shut' → SendsNone P waiting shut left now → IsQuiet Q waiting shut' old now
+by_none P Q waiting shut shut' old found left now one two three is not_yet f same sends = record {
+  found = found;
+  left = left;
+  same = one;
+  same_left = two;
+  same_now = three;
+  view_is = is;
+  not_yet = not_yet;
+  sends = sends_as P Q waiting shut shut' left now f same sends;
+}
 
 caller_went : (went : Bool) (b c : CallerAt) → CallerWrites went b c → length (view b.end).sent ≤ length (view c.end).sent
 caller_went true b c more = omega (arith, more)
@@ -91,33 +122,14 @@ pub caller_turns : (came went : Bool) (old a b c : CallerAt) (pace : Pace) → I
     → CallerWrites went b c → (view c.end).got ≡ (view b.end).got → c.caller.replies.outcome ≡ b.caller.replies.outcome
     → IsMade (not (came || went)) pace → CallerTurns (turned_by (came || went)) old (record { caller = c.caller; end = c.end; pace = pace })
 caller_turns true went old a b c pace same same' same'' is caller was none reads paced sent writes got outcome made =
-    (record { kept = turn_keeps (view old.end) (view a.end) (view b.end) (view c.end) is reads.0 sent got (caller_went went b c writes); more = by_read reads.1 }, made)
-  where
-    by_read : (length (view a.end).got < length (view b.end).got) ⊎ IsSome b.caller.replies.outcome
-        → (length (view old.end).got < length (view c.end).got) ⊎ (length (view old.end).sent < length (view c.end).sent) ⊎ IsSome c.caller.replies.outcome
-    by_read (inl more) = inl (subst (λ v. length v.got < length (view c.end).got) is (subst (λ g. length (view a.end).got < length g) (sym got) more))
-    by_read (inr over) = inr (inr (subst IsSome (sym outcome) over))
-caller_turns false true old a b c pace same same' same'' is caller was none reads paced sent more got outcome made = (
-  record {
-    kept = turn_keeps (view old.end) (view a.end) (view b.end) (view c.end) is (as_long (view a.end).got (view b.end).got reads.1) sent got (caller_went true b c more);
-    more = inr (inl (subst (λ s. length s < length (view c.end).sent) (sent ∙ ap (λ v. v.sent) is) more));
-  },
-  made,
-)
+    (by_read (view old.end) (view a.end) (view b.end) (view c.end) b.caller.replies.outcome c.caller.replies.outcome is reads.0 reads.1 sent got (caller_went went b c writes) (subst IsSome (sym outcome)), made)
+caller_turns false true old a b c pace same same' same'' is caller was none reads paced sent more got outcome made =
+    (by_write (view old.end) (view a.end) (view b.end) (view c.end) c.caller.replies.outcome is reads.1 sent got more, made)
 caller_turns false false old a b c pace same same' same'' is caller was none reads paced sent rests got outcome made =
     let kept = reads.0 ∙ caller in (
       (got ∙ (reads.1 ∙ ap (λ v. v.got) is), rests.0 ∙ (sent ∙ ap (λ v. v.sent) is), outcome ∙ (ap (λ k. k.replies.outcome) kept ∙ none)),
       made,
-      record {
-        found = a.end;
-        left = b.end;
-        same = same;
-        same_left = same';
-        same_now = same'';
-        view_is = is;
-        not_yet = reads.2;
-        sends = sends_as (IsStill b.caller) (IsStill old.caller) c.caller.requests.waiting b.pace.peer_shut old.pace.peer_shut b.end c.end (subst IsStill kept) (ap (λ p. p.peer_shut) (paced ∙ was)) rests.1;
-      },
+      by_none (IsStill b.caller) (IsStill old.caller) c.caller.requests.waiting b.pace.peer_shut old.pace.peer_shut old.end a.end b.end c.end same same' same'' is reads.2 (subst IsStill kept) (ap (λ p. p.peer_shut) (paced ∙ was)) rests.1,
     )
 
 answers_still : (old b : ServingAt) → b.serving ≡ old.serving → (view b.end).got ≡ (view old.end).got → (view b.end).sent ≡ (view old.end).sent → HasNothing b → HasNothing old
@@ -132,35 +144,17 @@ pub serving_turns : (came went : Bool) (old a b c : ServingAt) (pace : Pace) →
     → ServingWrites went b c → (view c.end).got ≡ (view b.end).got → (IsSome b.serving.answering.outcome → IsSome c.serving.answering.outcome)
     → IsMade (not (came || went)) pace → ServingTurns (turned_by (came || went)) old (record { serving = c.serving; end = c.end; pace = pace })
 serving_turns true went old a b c pace same same' same'' is serving was none reads paced sent writes got outcome made =
-    (record { kept = turn_keeps (view old.end) (view a.end) (view b.end) (view c.end) is reads.0 sent got (serving_went went b c writes); more = by_read reads.1 }, made)
-  where
-    by_read : (length (view a.end).got < length (view b.end).got) ⊎ IsSome b.serving.answering.outcome
-        → (length (view old.end).got < length (view c.end).got) ⊎ (length (view old.end).sent < length (view c.end).sent) ⊎ IsSome c.serving.answering.outcome
-    by_read (inl more) = inl (subst (λ v. length v.got < length (view c.end).got) is (subst (λ g. length (view a.end).got < length g) (sym got) more))
-    by_read (inr over) = inr (inr (outcome over))
-serving_turns false true old a b c pace same same' same'' is serving was none reads paced sent more got outcome made = (
-  record {
-    kept = turn_keeps (view old.end) (view a.end) (view b.end) (view c.end) is (as_long (view a.end).got (view b.end).got reads.1) sent got (serving_went true b c more);
-    more = inr (inl (subst (λ s. length s < length (view c.end).sent) (sent ∙ ap (λ v. v.sent) is) more));
-  },
-  made,
-)
+    (by_read (view old.end) (view a.end) (view b.end) (view c.end) b.serving.answering.outcome c.serving.answering.outcome is reads.0 reads.1 sent got (serving_went went b c writes) outcome, made)
+serving_turns false true old a b c pace same same' same'' is serving was none reads paced sent more got outcome made =
+    (by_write (view old.end) (view a.end) (view b.end) (view c.end) c.serving.answering.outcome is reads.1 sent got more, made)
 serving_turns false false old a b c pace same same' same'' is serving was none reads paced sent rests got outcome made =
     let kept = reads.0 ∙ serving in
     let got_is = reads.1 ∙ ap (λ v. v.got) is in
     let sent_is = sent ∙ ap (λ v. v.sent) is in (
       (got ∙ got_is, rests.0 ∙ sent_is, rests.1 ∙ (ap (λ k. k.answering.outcome) kept ∙ none)),
       made,
-      record {
-        found = a.end;
-        left = b.end;
-        same = same;
-        same_left = same';
-        same_now = same'';
-        view_is = is;
-        not_yet = reads.2;
-        sends = sends_as (HasNothing b) (HasNothing old) c.serving.answering.waiting b.pace.peer_shut old.pace.peer_shut b.end c.end (answers_still old b kept got_is sent_is) (ap (λ p. p.peer_shut) (paced ∙ was)) rests.2;
-      },
+      by_none (HasNothing b) (HasNothing old) c.serving.answering.waiting b.pace.peer_shut old.pace.peer_shut old.end a.end b.end c.end same same' same'' is reads.2 (answers_still old b kept got_is sent_is)
+          (ap (λ p. p.peer_shut) (paced ∙ was)) rests.2,
     )
 
 -- ---- the peer
