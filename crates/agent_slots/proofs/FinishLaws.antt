@@ -1,7 +1,8 @@
 -- All ends while they are retired one after another, and what they report.
-use Rattle.std.proofs.Common.{◌≡◌, ◌≢◌, ℕ, ◌+◌, ◌≤◌, zero, suc, List, [], ◌∷◌, ◌++◌, map, refl, ap, sym, ◌∙◌, arith, append_assoc, subst, Option, Some, None, inr}
+use Rattle.std.proofs.Common.{◌≡◌, ◌≢◌, ℕ, ◌+◌, ◌≤◌, zero, suc, List, [], ◌∷◌, ◌++◌, map, take, refl, ap, sym, ◌∙◌, arith, append_assoc, subst, Option, Some, None, inr}
 use Rattle.std.specs.Prelude.{Bool, false, slice_get, option_map, option_and_then, IsSome}
-use Rattle.std.proofs.lemmas.List.{map-append}
+use Rattle.std.proofs.lemmas.List.{map-append, map_more}
+use Rattle.std.proofs.lemmas.Option.{get_or_from_slice_get, slice_get_within}
 use Rattle.std.specs.List.{AllByRecursion as Each, AllZip as EachPair}
 use Rattle.list_laws.proofs.Each.{each_push, some_get}
 use Rattle.end_view.specs.EndView.{EndView}
@@ -238,6 +239,11 @@ all_served e seen spent first ends reports done is whole all done_are =
     (reports_serves e.version e.domain (frames e.slots.items) first all.back.rest reports e.calls.items e.served.items done (all.reported e.version whole.stages) whole.have_ends done_are))
 
 -- ---- reports that are taken out one after another
+
+-- what came of one note more
+pub one_told : {N A : Type 0} (f : N → A) (notes : List N) (k : ℕ) (n : N) (done new : List A) (told : A) → slice_get notes k ≡ Some n → done ≡ map f (take k notes) → new ≡ done ++ told ∷ [] → told ≡ f n → new ≡ map f (take (k + 1) notes)
+one_told f notes k n done new told here before more is =
+    more ∙ (ap (λ ds. ds ++ told ∷ []) before ∙ (ap (λ a. map f (take k notes) ++ a ∷ []) (is ∙ ap f (sym (get_or_from_slice_get notes k n n here))) ∙ sym (map_more f notes k n (slice_get_within notes k n here))))
 
 call_number : (a b : CallOver) (m k : ℕ) → Call m a ≡ Call k b → m ≡ k
 call_number a b m k e = cc
