@@ -1,5 +1,5 @@
 //! The data ends of an agent, what is noted of them, and their turns.
-ghost use Rattle.std.specs.Prelude.{◌≡◌, ◌+◌, ◌<◌, ◌≤◌, ◌++◌, ◌∷◌, [], is_some, IfOk, IfSome, OnOk, length, drop, get_or, vec_capacity, if◌then◌else◌};
+ghost use Rattle.std.specs.Prelude.{◌≡◌, ◌+◌, ◌<◌, is_some, IfOk, IfSome, OnOk, length, drop, get_or, if◌then◌else◌};
 ghost use Rattle.std.specs.List.{AllByRecursion as Each};
 ghost use Rattle.task_duties.specs.declared.place.PagePlace.TheVariants.{Payload};
 ghost use Rattle.task_duties.specs.Places.{has_place};
@@ -159,16 +159,5 @@ fn take_back_at(slots: &mut [Slot], at: usize) -> bool
         slots[at].take_back()
     } else {
         false
-    }
-}
-
-/// Appends a value to a list that has room for it.
-pub(crate) fn push_within<T: Drop>(list: &mut Vec<T>, value: T)
-    requires { length list.old.items < vec_capacity list.old }
-    ensures items { list.new.items ≡ list.old.items ++ value ∷ [] }
-    ensures capacity { vec_capacity list.old ≤ vec_capacity list.new }
-{
-    if list.push(value).is_err() {
-        unreachable!()
     }
 }

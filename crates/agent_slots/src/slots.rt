@@ -8,7 +8,7 @@ ghost use Rattle.task_duties.specs.TaskOwes.{places_in};
 ghost use Rattle.task_duties.specs.GivenEnds.{all_given, all_retired, retired_at};
 
 use crate::done::DataDone;
-use crate::ends::{Ends, push_within};
+use crate::ends::Ends;
 use crate::finish::{finish_all, give_up_all, session_ends};
 use crate::note::{CallNote, ServedNote};
 use crate::setup::{EndsRoom, room_for, unused_slots};
@@ -152,6 +152,8 @@ impl<'p> DataSlots<'p> {
         let Some(at) = self.ends.find_unused(self.ends.domain, to, port) else {
             unreachable!()
         };
+        self.ends.busy.reserve(1)?;
+        let laid = self.ends.slots[at].lay(self.ends.alloc)?;
         let note = CallNote {
             at,
             to,
@@ -160,9 +162,7 @@ impl<'p> DataSlots<'p> {
         };
         let seen = Snapshot::of(&input);
         let caller = Caller::new(self.ends.alloc, input, self.ends.version, CHUNK)?;
-        self.ends.busy.reserve(1)?;
-        let laid = self.ends.slots[at].lay(self.ends.alloc)?;
-        push_within(&mut self.ends.busy, at);
+        self.ends.busy.push_reserved(at);
         self.ends.slots[at].call(number, seen, caller, laid);
         self.ends.calls[number] = Some(note);
         Ok(())
@@ -187,6 +187,9 @@ impl<'p> DataSlots<'p> {
         let Some(at) = self.ends.find_unused(from, self.ends.domain, port) else {
             unreachable!()
         };
+        let number = self.ends.served.len();
+        self.ends.busy.reserve(1)?;
+        self.ends.served.reserve(1)?;
         let note = ServedNote {
             at,
             from,
@@ -194,11 +197,9 @@ impl<'p> DataSlots<'p> {
             service: Snapshot::of(&service),
         };
         let seen = Snapshot::of(&service);
-        let number = self.ends.served.len();
         let serving = Serving::new(self.ends.alloc, service, self.ends.version, CHUNK)?;
-        self.ends.busy.reserve(1)?;
-        self.ends.served.push(note)?;
-        push_within(&mut self.ends.busy, at);
+        self.ends.busy.push_reserved(at);
+        self.ends.served.push_reserved(note);
         self.ends.slots[at].serve(number, seen, serving);
         Ok(())
     }

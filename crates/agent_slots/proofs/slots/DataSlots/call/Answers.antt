@@ -26,7 +26,7 @@ free : (c : After-index_mut) → IsFree c.self.inside.ends.slots.items c.in-Some
 free c = is_free c.self.inside.ends.slots.items c.in-Some.at _ c.index_mut.result.now c.in-Some.ensures.found c.index_mut.ensures.value
 
 begun : (c : After-call) → IsWhole c.self.inside.ends → IsFree c.self.inside.ends.slots.items c.in-Some.at (Payload c.self.inside.ends.domain c.args.to c.args.port) c.index_mut.result.now
-    → HasBegun c.self.inside.ends c.self.inside.spent.value (set c.self.inside.ends.slots.items c.in-Some.at c.call.new.self) c.push_within.new.list.items
+    → HasBegun c.self.inside.ends c.self.inside.spent.value (set c.self.inside.ends.slots.items c.in-Some.at c.call.new.self) c.push_reserved.new.self.items
     (set c.self.inside.ends.calls.items c.args.number (Some (record { at = c.in-Some.at; to = c.args.to; port = c.args.port; input = c.of.result }))) c.self.inside.ends.served.items
     (Payload c.self.inside.ends.domain c.args.to c.args.port) (record { domain = c.args.to; port = c.args.port; call = Some c.args.number })
     (set (state_of c.self.inside.ends c.self.inside.spent.value).called c.args.number (Some (record { to = c.args.to; port = c.args.port; input = c.args.input.items }))) (state_of c.self.inside.ends c.self.inside.spent.value).served
@@ -37,7 +37,7 @@ begun c all free =
       frame = c.call.ensures.frame ∙ ap (λ v. record (frame_of c.index_mut.result.now) { used = ForCall c.args.number v.items }) c.of-seen.ensures;
       stage = subst (λ v. IsStage v c.call.new.self.stage) c.in_ok-caller.ensures.asked.2 c.call.ensures.stage;
       session = c.call.ensures.session;
-    }) (c.push_within.ensures.items ∙ ap (λ b. b ++ c.in-Some.at ∷ []) c.in_ok-reserve.ensures.items)
+    }) (c.push_reserved.ensures.items ∙ ap (λ b. b ++ c.in-Some.at ∷ []) c.in_ok-reserve.ensures.items)
 
 pub find_unused-requires-clause-whole : goal.find_unused-requires-clause-whole
 find_unused-requires-clause-whole c = whole_of c.self.inside.ends _ _ c.self.view_is c.requires.whole c.self.invariant.3

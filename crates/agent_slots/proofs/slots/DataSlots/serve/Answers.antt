@@ -23,7 +23,7 @@ free : (c : After-index_mut) → IsFree c.self.inside.ends.slots.items c.in-Some
 free c = is_free c.self.inside.ends.slots.items c.in-Some.at _ c.index_mut.result.now c.in-Some.ensures.found c.index_mut.ensures.value
 
 begun : (c : After-serve) → IsWhole c.self.inside.ends → IsFree c.self.inside.ends.slots.items c.in-Some.at (Payload c.args.from c.self.inside.ends.domain c.args.port) c.index_mut.result.now
-    → HasBegun c.self.inside.ends c.self.inside.spent.value (set c.self.inside.ends.slots.items c.in-Some.at c.serve.new.self) c.push_within.new.list.items c.self.inside.ends.calls.items c.push.new.self.items
+    → HasBegun c.self.inside.ends c.self.inside.spent.value (set c.self.inside.ends.slots.items c.in-Some.at c.serve.new.self) c.push_reserved.new.self.items c.self.inside.ends.calls.items c.push_reserved-2.new.self.items
     (Payload c.args.from c.self.inside.ends.domain c.args.port) (record { domain = c.args.from; port = c.args.port; call = None }) (state_of c.self.inside.ends c.self.inside.spent.value).called
     ((state_of c.self.inside.ends c.self.inside.spent.value).served ++ record { from = c.args.from; port = c.args.port; service = c.args.service } ∷ [])
 begun c all free =
@@ -33,7 +33,8 @@ begun c all free =
       frame = c.serve.ensures.frame ∙ ap (λ v. record (frame_of c.index_mut.result.now) { used = ForServing c.len-number.result v }) c.of-seen.ensures;
       stage = subst (λ v. IsStage v c.serve.new.self.stage) c.in_ok-serving.ensures.asked.1 c.serve.ensures.stage;
       session = c.serve.ensures.session;
-    }) (c.push_within.ensures.items ∙ ap (λ b. b ++ c.in-Some.at ∷ []) c.in_ok-reserve.ensures.items) c.in_ok-push.ensures.items
+    }) (c.push_reserved.ensures.items ∙ ap (λ b. b ++ c.in-Some.at ∷ []) c.in_ok-reserve.ensures.items)
+    (c.push_reserved-2.ensures.items ∙ ap (λ ns. ns ++ record { at = c.in-Some.at; from = c.args.from; port = c.args.port; service = c.of.result } ∷ []) c.in_ok-reserve-2.ensures.items)
 
 pub find_unused-requires-clause-whole : goal.find_unused-requires-clause-whole
 find_unused-requires-clause-whole c = whole_of c.self.inside.ends _ _ c.self.view_is c.requires.whole c.self.invariant.3
