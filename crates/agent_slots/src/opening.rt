@@ -59,8 +59,9 @@ impl<'p> Slot<'p> {
         ensures session { is_session self.new.stage ≡ true }
         ensures retire { CanRetire self.new.stage }
     {
-        let Stage::Unused { end } = mem::replace(&mut self.stage, Stage::Taken) else {
-            unreachable!()
+        let end = match mem::replace(&mut self.stage, Stage::Taken) {
+            Stage::Unused { end } => end,
+            _ => unreachable!(),
         };
         let (end, side) = open_server(end, laid);
         let stage = Stage::Calls {
@@ -87,10 +88,10 @@ impl<'p> Slot<'p> {
         ensures session { is_session self.new.stage ≡ true }
         ensures retire { CanRetire self.new.stage }
     {
-        let Stage::Unused { end } = mem::replace(&mut self.stage, Stage::Taken) else {
-            unreachable!()
+        let stage = match mem::replace(&mut self.stage, Stage::Taken) {
+            Stage::Unused { end } => serve_unused(end, number, service, serving),
+            _ => unreachable!(),
         };
-        let stage = serve_unused(end, number, service, serving);
         mem::forget(mem::replace(&mut self.stage, stage));
     }
 
@@ -122,16 +123,15 @@ impl<'p> Slot<'p> {
         ensures begins { Begins AwaitsPage (session_of self.new.stage) }
         ensures stage { (version : ℕ) → IsStage version self.old.stage → IsStage version self.new.stage }
     {
-        let Stage::Awaits {
-            number,
-            service,
-            serving,
-            side,
-        } = mem::replace(&mut self.stage, Stage::Taken)
-        else {
-            unreachable!()
+        let stage = match mem::replace(&mut self.stage, Stage::Taken) {
+            Stage::Awaits {
+                number,
+                service,
+                serving,
+                side,
+            } => open_awaited(number, service, serving, side),
+            _ => unreachable!(),
         };
-        let stage = open_awaited(number, service, serving, side);
         mem::forget(mem::replace(&mut self.stage, stage));
     }
 }
