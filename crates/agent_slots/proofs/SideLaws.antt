@@ -4,7 +4,7 @@ use Rattle.std.specs.Prelude.{OnOk, true, false}
 use Rattle.std.specs.declared.snapshot.Snapshot.{Snapshot}
 use Rattle.end_view.specs.EndView.{EndView}
 use Rattle.task_duties.specs.declared.place.PagePlace.{PagePlace}
-use Rattle.task_duties.specs.Agent.Sessions.{IsClosed, IsGone, ServingEnded, ServingOwes}
+use Rattle.task_duties.specs.Agent.Sessions.{CallerEnded, CallerOwes, IsClosed, IsGone, ServingEnded, ServingOwes}
 use Rattle.qrexec_data.specs.declared.outcome.Outcome.{Outcome}
 use Rattle.qrexec_data.specs.declared.outcome.Outcome.TheVariants.{Done, Fault, Closed, Gone}
 use Rattle.page_offer.specs.Views.{named}
@@ -17,13 +17,14 @@ use Rattle.channel_session.specs.Answering.{ServingAt, IsAnswering, IsAtWork}
 use Rattle.agent_slots.specs.declared.stage.Stage.TheVariants.{Unused, Calls, Serves}
 use Rattle.agent_slots.specs.declared.stage.Stage.{Stage}
 use Rattle.agent_slots.specs.Stages.{Use, Frame, framed, IsStage, WasRetired}
+use Rattle.task_duties.specs.declared.done.CallerDone.{CallerDone}
 use Rattle.task_duties.specs.declared.ends.DoneEnd.{DoneEnd}
 use Rattle.task_duties.specs.declared.ends.UnusedEnd.{UnusedEnd}
 use Rattle.task_duties.specs.GivenEnds.{done_view, fresh_view}
 use Rattle.agent_slots.specs.declared.side.PageSide.{PageSide}
 use Rattle.agent_slots.specs.declared.side.PageSide.TheVariants as side
 use Rattle.agent_slots.specs.Slots.{held_of}
-use Rattle.agent_slots.specs.Sides.{seen_under, is_late_unused, is_late_side}
+use Rattle.agent_slots.specs.Sides.{seen_under, is_late_unused, is_late_side, is_late_done}
 
 -- an end that is the same one as before is held as the same one
 pub same_held : (s : PageSide) (place : PagePlace) (before now : EndView) → now.page ≡ before.page → now.role ≡ before.role → held_of place (seen_under s now) ≡ held_of place (seen_under s before)
@@ -38,6 +39,13 @@ put_to_use place stage end s now used is seen late =
     let same : ◌≡◌ {A = Frame} (record { held = held_of place (seen_under s now); used = used; late = is_late_side s }) (record { held = held_of place (fresh_view end); used = used; late = is_late_unused end }) =
     λ i. record { held = held_of place (seen i); used = used; late = late i } in
     same ∙ ap (λ x. record (framed place x) { used = used }) (sym is)
+
+-- and so does one that was in use, once it is retired
+pub put_down : (place : PagePlace) (s : PageSide) (before last : EndView) (end : DoneEnd) (used : Use) → IsRetired before last → done_view end ≡ seen_under s last → is_late_done end ≡ is_late_side s
+    → ◌≡◌ {A = Frame} (record { held = held_of place (done_view end); used = used; late = is_late_done end }) (record { held = held_of place (seen_under s before); used = used; late = is_late_side s })
+put_down place s before last end used retired seen late =
+    let held = ap (held_of place) seen ∙ same_held s place before last (ap (λ (v : EndView). v.page) retired) (ap (λ (v : EndView). v.role) retired) in
+    λ i. record { held = held i; used = used; late = late i }
 
 -- what is reported of an end depends on nothing that the name changes
 closed_named : (e : EndView) (name : TableId) → IsClosed e → IsClosed (named name e)
@@ -58,7 +66,21 @@ serving_owes_seen side.Laid version name outcome got e h = h
 serving_owes_seen (side.Server s) version name outcome got e h = record { owed = h.owed; is_service = h.is_service; got_is = h.got_is; sent = h.sent; fits = h.fits; ended = serving_ended outcome version h.owed e s.name h.ended }
 serving_owes_seen (side.Client c) version name outcome got e h = record { owed = h.owed; is_service = h.is_service; got_is = h.got_is; sent = h.sent; fits = h.fits; ended = serving_ended outcome version h.owed e c.name h.ended }
 
--- what a side that serves has when its call is over, by the view of its end then
+caller_ended : (outcome : Outcome) (e : EndView) (name : TableId) → CallerEnded outcome e → CallerEnded outcome (named name e)
+caller_ended (Done code) e name h = tt
+caller_ended (Fault fault) e name h = tt
+caller_ended Closed e name h = closed_named e name h
+caller_ended Gone e name h = gone_named e name h
+
+caller_owes_seen : (s : PageSide) (version : ℕ) (input : List ℕ) (done : CallerDone) (e : EndView) → CallerOwes version input done e → CallerOwes version input done (seen_under s e)
+caller_owes_seen side.Laid version input done e h = h
+caller_owes_seen (side.Server s) version input done e h = record { got = h.got; sent = h.sent; stdout = h.stdout; stderr = h.stderr; fits = h.fits; ended = caller_ended done.outcome e s.name h.ended }
+caller_owes_seen (side.Client c) version input done e h = record { got = h.got; sent = h.sent; stdout = h.stdout; stderr = h.stderr; fits = h.fits; ended = caller_ended done.outcome e c.name h.ended }
+
+-- what a caller has when its call is over, by the view of its end then, and a side that serves
+pub caller_over : (version : ℕ) (input : List ℕ) (s : PageSide) (end : DoneEnd) (done : CallerDone) (e : EndView) → done_view end ≡ seen_under s e → CallerOwes version input done e → CallerOwes version input done (done_view end)
+caller_over version input s end done e seen h = subst (λ v. CallerOwes version input done v) (sym seen) (caller_owes_seen s version input done e h)
+
 pub serving_over : (version : ℕ) (name : List ℕ) (s : PageSide) (end : DoneEnd) (outcome : Outcome) (got : List ℕ) (e : EndView) → done_view end ≡ seen_under s e → ServingOwes version name outcome got e
     → ServingOwes version name outcome got (done_view end)
 serving_over version name s end outcome got e seen h = subst (λ v. ServingOwes version name outcome got v) (sym seen) (serving_owes_seen s version name outcome got e h)

@@ -1,15 +1,37 @@
-use Rattle.std.proofs.Common.{sym, subst}
+use Rattle.std.proofs.Common.{ap, sym, subst, ◌∙◌}
 use Rattle.vchan_rule.specs.Seated.{view, last_view}
 use Rattle.task_duties.specs.GivenEnds.{done_view}
 use Rattle.service_gate.specs.Owing.{builtin_owes}
-use Rattle.task_duties.specs.Agent.Sessions.{ServingOwes}
+use Rattle.task_duties.specs.Agent.Sessions.{CallerOwes, ServingOwes}
 use Rattle.agent_slots.specs.declared.stage.Stage.{Stage}
-use Rattle.agent_slots.specs.declared.stage.Stage.TheVariants.{Serves}
-use Rattle.agent_slots.specs.Stages.{IsStage}
+use Rattle.agent_slots.specs.declared.stage.Stage.TheVariants.{Calls, Serves}
+use Rattle.agent_slots.specs.Stages.{ForCall, ForServing, IsStage, framed}
 use Rattle.agent_slots.specs.Sessions.{EndedWith, ComesToItsEnd, session_of}
-use Rattle.agent_slots.proofs.SideLaws.{serving_over, was_retired}
+use Rattle.agent_slots.proofs.SideLaws.{caller_over, put_down, serving_over, was_retired}
 use Rattle.agent_slots.proofs.SessionLaws.{call_ends, serving_ends}
 use Rattle.agent_slots.proofs.ending.ended.Goals as goal
+
+pub returns-in-Calls-clause-frame : goal.returns-in-Calls-clause-frame
+returns-in-Calls-clause-frame c = λ place.
+    let s = c.in-Calls.session in
+    put_down place c.in-Calls.side (view s.end) (last_view c.finish-done.result.retired) c.finish-end.result (ForCall c.in-Calls.number c.in-Calls.input.value.items) c.finish-done.ensures.end c.finish-end.ensures.view c.finish-end.ensures.late
+    ∙ ap (framed place) (sym c.in-Calls.is)
+
+pub returns-in-Serves-clause-frame : goal.returns-in-Serves-clause-frame
+returns-in-Serves-clause-frame c = λ place.
+    let s = c.in-Serves.session in
+    put_down place c.in-Serves.side (view s.end) (last_view c.finish-got.result.retired) c.finish-end-in-Serves.result (ForServing c.in-Serves.number c.in-Serves.service.value) c.finish-got.ensures.end c.finish-end-in-Serves.ensures.view c.finish-end-in-Serves.ensures.late
+    ∙ ap (framed place) (sym c.in-Serves.is)
+
+pub returns-in-Calls-clause-stage : goal.returns-in-Calls-clause-stage
+returns-in-Calls-clause-stage c = λ version stage.
+    let P : Stage → Type 0 = IsStage version in
+    let ended = c.finish-done.result in
+    let last = last_view ended.retired in
+    let session = c.in-Calls.session in
+    let was : IsStage version (Calls c.in-Calls.number c.in-Calls.input c.in-Calls.side session) = subst P c.in-Calls.is stage in
+    caller_over version c.in-Calls.input.value.items c.in-Calls.side c.finish-end.result ended.done last c.finish-end.ensures.view
+    (subst (λ i. CallerOwes version i ended.done last) was.2 (subst (λ v. CallerOwes v session.caller.requests.input ended.done last) was.1 c.finish-done.ensures.owed))
 
 pub returns-in-Serves-clause-stage : goal.returns-in-Serves-clause-stage
 returns-in-Serves-clause-stage c = λ version stage name is_service.
