@@ -1,7 +1,7 @@
 use Rattle.std.proofs.Common.{◌≡◌, ap, sym, ◌∙◌, subst, refl, arith, set, get_or, drop}
 use Rattle.std.specs.Prelude.{is_none, Some, IfSome}
-use Rattle.std.specs.List.{swap_remove}
-use Rattle.list_laws.proofs.Each.{each_get}
+use Rattle.std.specs.List.{swap_remove, AllByRecursion as Each}
+use Rattle.list_laws.proofs.Each.{each_get, each_set}
 use Rattle.list_laws.proofs.Places.{same_read}
 use Rattle.agent_slots.specs.Stages.{CanRetire, IsStage, told_of, place_of, use_of}
 use Rattle.agent_slots.specs.Whole.{TakesFrom, held_in}
@@ -31,6 +31,9 @@ takes c is turn =
     let at = c.index-at.result.now in
     subst (λ n. OneTakesTurn n (sessions_in e.slots.items) (sessions_in (set e.slots.items at c.turn.new.self))) (read_at e.busy.items c.args.next at c.requires.next c.index-at.ensures) (one_takes e.slots.items at c.index_mut.result.now c.turn.new.self is.here turn)
 
+retires : (c : After-turn) → Each (λ s. CanRetire s.stage) (set c.args.self.now.slots.items c.index-at.result.now c.turn.new.self)
+retires c = each_set (λ s. CanRetire s.stage) c.args.self.now.slots.items c.index-at.result.now c.turn.new.self c.requires.retire c.turn.ensures.retire
+
 pub index_mut-requires : goal.index_mut-requires
 index_mut-requires c =
     let e = c.args.self.now in
@@ -55,6 +58,18 @@ returns-in_err-push-clause-same c = let w = goal.at.returns-in_err-push-clause-s
 
 pub returns-clause-same : goal.returns-clause-same
 returns-clause-same c = let w = goal.at.returns-clause-same c in (same w.After-turn (busy w.After-index_mut), refl, refl)
+
+pub returns-in_err-told-clause-retire : goal.returns-in_err-told-clause-retire
+returns-in_err-told-clause-retire c = retires (goal.at.returns-in_err-told-clause-retire c).After-turn
+
+pub returns-in_default-clause-retire : goal.returns-in_default-clause-retire
+returns-in_default-clause-retire c = retires (goal.at.returns-in_default-clause-retire c).After-turn
+
+pub returns-in_err-push-clause-retire : goal.returns-in_err-push-clause-retire
+returns-in_err-push-clause-retire c = retires (goal.at.returns-in_err-push-clause-retire c).After-turn
+
+pub returns-clause-retire : goal.returns-clause-retire
+returns-clause-retire c = retires (goal.at.returns-clause-retire c).After-turn
 
 pub returns-in_default-clause-turned : goal.returns-in_default-clause-turned
 returns-in_default-clause-turned c =
