@@ -275,8 +275,15 @@ impl<'p> DataSlots<'p> {
             slots,
             calls,
             served,
+            index,
+            busy,
+            waiting,
             ..
         } = ends;
+        // Dropped here once, and not at each of the exits below.
+        drop(index);
+        drop(busy);
+        drop(waiting);
         let mut reports = Vec::new(alloc);
         if reports.reserve(slots.len()).is_err() {
             return Err(give_up_all(slots, first, retired));
