@@ -60,7 +60,7 @@ fn acts_take_their_turns(rt: HostRuntime) -> Result<(), Fail> {
     let alloc = rt.alloc();
     for (acts, turns) in ROWS {
         let text = format!(in alloc; "domain = [{{name = 'evil', hostile = [{acts}]}}]")?;
-        assert_eq!(rt; turns_of(alloc, text.as_bytes())?, turns, "{acts}");
+        assert!(rt; turns_of(alloc, text.as_bytes())? == turns, "{acts}");
     }
     Ok(())
 }

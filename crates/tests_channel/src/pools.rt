@@ -68,14 +68,13 @@ fn forty_tasks(rt: HostRuntime) -> Result<(), Fail> {
             turns: AtomicU64::new(0),
         };
         let dones = run_pool(&rt, rt.alloc(), rising(rt.alloc(), 40)?, workers, &gate)?;
-        assert_eq!(rt;
-            gate.turns.load(Ordering::SeqCst),
-            820,
+        assert!(rt;
+            gate.turns.load(Ordering::SeqCst) == 820,
             "with {workers} workers"
         );
-        assert_eq!(rt; dones.len(), 40, "with {workers} workers");
+        assert!(rt; dones.len() == 40, "with {workers} workers");
         for (place, done) in dones.iter().enumerate() {
-            assert_eq!(rt; *done as usize, place + 1, "with {workers} workers");
+            assert!(rt; *done as usize == place + 1, "with {workers} workers");
         }
     }
     let none = run_pool(&rt, rt.alloc(), rising(rt.alloc(), 0)?, 3, &OpenGate)?;
@@ -127,7 +126,7 @@ impl Gate for Together {
 fn two_turns_at_once(rt: HostRuntime) -> Result<(), Fail> {
     let gate = Together::of(0b110);
     let dones = run_pool(&rt, rt.alloc(), rising(rt.alloc(), 3)?, 2, &gate)?;
-    assert_eq!(rt; dones.as_slice(), [1, 2, 3].as_slice());
+    assert!(rt; dones.as_slice() == [1, 2, 3].as_slice());
     assert!(rt; !gate.late.load(Ordering::SeqCst), "a task waited in vain");
     Ok(())
 }
@@ -144,7 +143,7 @@ fn all_turns_at_once(rt: HostRuntime) -> Result<(), Fail> {
             workers,
             &gate,
         )?;
-        assert_eq!(rt; dones.len(), workers as usize);
+        assert!(rt; dones.len() == workers as usize);
         assert!(rt;
             !gate.late.load(Ordering::SeqCst),
             "a task of {workers} waited in vain"
@@ -195,7 +194,7 @@ fn one_turn_at_a_time(rt: HostRuntime) -> Result<(), Fail> {
         met: AtomicBool::new(false),
     };
     let dones = run_pool(&rt, rt.alloc(), rising(rt.alloc(), 3)?, 1, &gate)?;
-    assert_eq!(rt; dones.as_slice(), [1, 2, 3].as_slice());
+    assert!(rt; dones.as_slice() == [1, 2, 3].as_slice());
     assert!(rt; !gate.met.load(Ordering::SeqCst), "two tasks met");
     Ok(())
 }
@@ -247,9 +246,8 @@ fn tasks_that_wait_for_each_other(rt: HostRuntime) -> Result<(), Fail> {
         };
         let tasks = Vec::from_array(alloc, [task(1), task(2), task(4), task(8), task(16)])?;
         let dones = run_pool(&rt, alloc, tasks, workers, &OpenGate)?;
-        assert_eq!(rt;
-            dones.as_slice(),
-            [true; 5].as_slice(),
+        assert!(rt;
+            dones.as_slice() == [true; 5].as_slice(),
             "with {workers} workers"
         );
     }
@@ -285,8 +283,8 @@ fn one_worker_turns_in_rounds(rt: HostRuntime) -> Result<(), Fail> {
     let twice = || Steps { made: 0, left: 2 };
     let tasks = Vec::from_array(rt.alloc(), [twice(), twice(), twice()])?;
     let dones = run_pool(&rt, rt.alloc(), tasks, 1, &gate)?;
-    assert_eq!(rt; dones.as_slice(), [2, 2, 2].as_slice());
-    assert_eq!(rt; gate.entered.load(Ordering::SeqCst), 6);
+    assert!(rt; dones.as_slice() == [2, 2, 2].as_slice());
+    assert!(rt; gate.entered.load(Ordering::SeqCst) == 6);
     assert!(rt;
         !gate.missed.load(Ordering::SeqCst),
         "a task entered out of its turn"
@@ -346,9 +344,9 @@ fn nobody_polls(rt: HostRuntime) -> Result<(), Fail> {
             made: 0,
         })?;
     }
-    assert_eq!(rt; tasks.len(), 41);
+    assert!(rt; tasks.len() == 41);
     let dones = run_pool(&rt, rt.alloc(), tasks, 4, &OpenGate)?;
-    assert_eq!(rt; dones.len(), 41);
+    assert!(rt; dones.len() == 41);
     for (place, made) in dones.iter().enumerate() {
         assert!(rt;
             *made <= MOST_WAITED,

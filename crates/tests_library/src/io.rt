@@ -27,15 +27,15 @@ fn read_once<S: Source>(source: &mut S, buf: &mut [u8]) -> Result<usize, Failed>
 fn memory_source_gives_parts_and_fails_by_number(rt: HostRuntime) -> Result<(), Fail> {
     let mut source = source_of(rt.alloc(), "abcdefg", 4, &[2, 5])?;
     let mut buf = *b"......";
-    assert_eq!(rt; read_once(&mut source, &mut buf), Ok(4));
-    assert_eq!(rt; buf, *b"abcd..");
-    assert_eq!(rt; read_once(&mut source, &mut buf), Err(Failed));
-    assert_eq!(rt; buf, *b"abcd..");
-    assert_eq!(rt; read_once(&mut source, &mut buf[..1]), Ok(1));
-    assert_eq!(rt; read_once(&mut source, &mut buf), Ok(2));
-    assert_eq!(rt; buf, *b"fgcd..");
-    assert_eq!(rt; read_once(&mut source, &mut buf), Err(Failed));
-    assert_eq!(rt; read_once(&mut source, &mut buf), Ok(0));
+    assert!(rt; read_once(&mut source, &mut buf) == Ok(4));
+    assert!(rt; buf == *b"abcd..");
+    assert!(rt; read_once(&mut source, &mut buf) == Err(Failed));
+    assert!(rt; buf == *b"abcd..");
+    assert!(rt; read_once(&mut source, &mut buf[..1]) == Ok(1));
+    assert!(rt; read_once(&mut source, &mut buf) == Ok(2));
+    assert!(rt; buf == *b"fgcd..");
+    assert!(rt; read_once(&mut source, &mut buf) == Err(Failed));
+    assert!(rt; read_once(&mut source, &mut buf) == Ok(0));
     Ok(())
 }
 
@@ -46,12 +46,12 @@ fn write_once<K: Sink>(sink: &mut K, piece: &[u8]) -> Result<usize, Failed> {
 #[test]
 fn memory_sink_takes_parts_and_fails_by_number_and_room(rt: HostRuntime) -> Result<(), Fail> {
     let mut sink = MemSink::new(rt.alloc(), 5, 3, [2].to_vec(rt.alloc())?)?;
-    assert_eq!(rt; write_once(&mut sink, b"abcd"), Ok(3));
-    assert_eq!(rt; write_once(&mut sink, b""), Err(Failed));
-    assert_eq!(rt; write_once(&mut sink, b"def"), Ok(2));
-    assert_eq!(rt; write_once(&mut sink, b"f"), Err(Failed));
-    assert_eq!(rt; write_once(&mut sink, b""), Ok(0));
-    assert_eq!(rt; sink.bytes(), b"abcde".as_slice());
+    assert!(rt; write_once(&mut sink, b"abcd") == Ok(3));
+    assert!(rt; write_once(&mut sink, b"") == Err(Failed));
+    assert!(rt; write_once(&mut sink, b"def") == Ok(2));
+    assert!(rt; write_once(&mut sink, b"f") == Err(Failed));
+    assert!(rt; write_once(&mut sink, b"") == Ok(0));
+    assert!(rt; sink.bytes() == b"abcde".as_slice());
     Ok(())
 }
 
@@ -75,13 +75,10 @@ fn reads_to_the_end_within_the_limit(rt: HostRuntime) -> Result<(), Fail> {
     for (text, most, limit, want) in cases {
         let mut source = source_of(alloc, text, most, &[])?;
         let got = len_of_all(alloc, &mut source, limit);
-        assert_eq!(rt; got, want, "{text} within {limit}");
+        assert!(rt; got == want, "{text} within {limit}");
     }
     let mut faulty = source_of(alloc, "abcdef", 4, &[2])?;
-    assert_eq!(rt;
-        len_of_all(alloc, &mut faulty, 6),
-        Err(ReadAllError::ReadFault)
-    );
+    assert!(rt; len_of_all(alloc, &mut faulty, 6) == Err(ReadAllError::ReadFault));
     Ok(())
 }
 
@@ -99,12 +96,12 @@ fn reads_much_in_large_pieces(rt: HostRuntime) -> Result<(), Fail> {
 fn writes_all_or_a_proper_prefix(rt: HostRuntime) -> Result<(), Fail> {
     let alloc = rt.alloc();
     let mut sink = MemSink::new(alloc, 10, 4, Vec::new(alloc))?;
-    assert_eq!(rt; write_all(&mut sink, b"abcdefghij"), Ok(()));
-    assert_eq!(rt; sink.bytes(), b"abcdefghij".as_slice());
-    assert_eq!(rt; write_all(&mut sink, b""), Ok(()));
+    assert!(rt; write_all(&mut sink, b"abcdefghij") == Ok(()));
+    assert!(rt; sink.bytes() == b"abcdefghij".as_slice());
+    assert!(rt; write_all(&mut sink, b"") == Ok(()));
     let mut faulty = MemSink::new(alloc, 10, 4, [2].to_vec(alloc)?)?;
-    assert_eq!(rt; write_all(&mut faulty, b"abcdefghij"), Err(WriteFault));
-    assert_eq!(rt; faulty.bytes(), b"abcd".as_slice());
+    assert!(rt; write_all(&mut faulty, b"abcdefghij") == Err(WriteFault));
+    assert!(rt; faulty.bytes() == b"abcd".as_slice());
     Ok(())
 }
 
@@ -154,28 +151,22 @@ impl Write for Shaky {
 fn std_streams_count_errors_as_faults(rt: HostRuntime) -> Result<(), Fail> {
     let alloc = rt.alloc();
     let mut source = StdSource::new(b"hello".as_slice());
-    assert_eq!(rt;
-        read_all(alloc, &mut source, 5)?.as_slice(),
-        b"hello".as_slice()
-    );
+    assert!(rt; read_all(alloc, &mut source, 5)?.as_slice() == b"hello".as_slice());
     let mut written = Vec::new(alloc);
-    assert_eq!(rt;
-        write_all(&mut StdSink::new(&mut written), b"hello"),
-        Ok(())
-    );
-    assert_eq!(rt; written.as_slice(), b"hello".as_slice());
+    assert!(rt; write_all(&mut StdSink::new(&mut written), b"hello") == Ok(()));
+    assert!(rt; written.as_slice() == b"hello".as_slice());
 
     let mut shaky = StdSource::new(Shaky { calls: 0 });
     let mut buf = [0; 2];
-    assert_eq!(rt; read_once(&mut shaky, &mut buf), Ok(1));
-    assert_eq!(rt; read_once(&mut shaky, &mut buf), Err(Failed));
+    assert!(rt; read_once(&mut shaky, &mut buf) == Ok(1));
+    assert!(rt; read_once(&mut shaky, &mut buf) == Err(Failed));
     let mut shaky = StdSink::new(Shaky { calls: 0 });
-    assert_eq!(rt; write_once(&mut shaky, b"ab"), Ok(1));
-    assert_eq!(rt; write_once(&mut shaky, b"b"), Err(Failed));
+    assert!(rt; write_once(&mut shaky, b"ab") == Ok(1));
+    assert!(rt; write_once(&mut shaky, b"b") == Err(Failed));
 
     let mut room = [0; 3];
     let mut full = StdSink::new(room.as_mut_slice());
-    assert_eq!(rt; write_all(&mut full, b"hello"), Err(WriteFault));
+    assert!(rt; write_all(&mut full, b"hello") == Err(WriteFault));
     Ok(())
 }
 
@@ -212,9 +203,9 @@ fn errors_are_told_in_words(rt: HostRuntime) -> Result<(), Fail> {
         Failed,
         Memory,
     )?;
-    assert_eq!(rt;
-        told.as_str(),
-        "read fault; input too long; out of memory; write fault; fault of a source or a sink; \
+    assert!(rt;
+        told.as_str()
+            == "read fault; input too long; out of memory; write fault; fault of a source or a sink; \
          out of memory"
     );
     Ok(())

@@ -65,9 +65,9 @@ fn a_number_gives_a_scenario(rt: HostRuntime) -> Result<(), Fail> {
     for next in NUMBERS {
         assert!(rt; number <= 65_536);
         number = next_number(number);
-        assert_eq!(rt; number, next);
+        assert!(rt; number == next);
     }
-    assert_eq!(rt; generate(rt.alloc(), 7, 2)?.calls.len(), 2);
+    assert!(rt; generate(rt.alloc(), 7, 2)?.calls.len() == 2);
     Ok(())
 }
 

@@ -37,9 +37,9 @@ fn byte_strings_spell_their_bytes(rt: HostRuntime) -> Result<(), Fail> {
         assert!(rt; bytes_of(rt.alloc(), word)?.as_slice() == bytes);
     }
     for word in REFUSED {
-        assert_eq!(rt; bytes_of(rt.alloc(), word).err(), Some(ByteError::BadHex));
+        assert!(rt; bytes_of(rt.alloc(), word).err() == Some(ByteError::BadHex));
     }
-    assert_eq!(rt; bytes_of(rt.alloc(), b"5a*2097152")?.len(), 2_097_152);
+    assert!(rt; bytes_of(rt.alloc(), b"5a*2097152")?.len() == 2_097_152);
     Ok(())
 }
 
@@ -52,10 +52,10 @@ fn push(bytes: &mut Vec<u8>, word: &[u8]) -> Result<(), PushError> {
 fn bytes_stand_behind_those_before(rt: HostRuntime) -> Result<(), Fail> {
     let mut bytes = Vec::from_slice(rt.alloc(), b"a")?;
     push(&mut bytes, b"6263")?;
-    assert_eq!(rt; push(&mut bytes, b"646x"), Err(PushError::BadHex));
-    assert_eq!(rt; push(&mut bytes, b"64*3"), Err(PushError::TooManyBytes));
-    assert_eq!(rt; push(&mut bytes, b"646566"), Err(PushError::TooManyBytes));
-    assert_eq!(rt; push(&mut bytes, b"64656x"), Err(PushError::BadHex));
+    assert!(rt; push(&mut bytes, b"646x") == Err(PushError::BadHex));
+    assert!(rt; push(&mut bytes, b"64*3") == Err(PushError::TooManyBytes));
+    assert!(rt; push(&mut bytes, b"646566") == Err(PushError::TooManyBytes));
+    assert!(rt; push(&mut bytes, b"64656x") == Err(PushError::BadHex));
     push(&mut bytes, b"64*2")?;
     assert!(rt; bytes.as_slice() == b"abcdd".as_slice());
     Ok(())
@@ -64,14 +64,14 @@ fn bytes_stand_behind_those_before(rt: HostRuntime) -> Result<(), Fail> {
 #[test]
 fn lines_words_and_numbers_are_read(rt: HostRuntime) {
     let mut reader = LineReader::of(b"\n# rings\nhead\n");
-    assert_eq!(rt;
-        reader.next(),
-        Ok(NextLine::Line {
-            number: 3,
-            text: b"head"
-        })
+    assert!(rt;
+        reader.next()
+            == Ok(NextLine::Line {
+                number: 3,
+                text: b"head"
+            })
     );
-    assert_eq!(rt; reader.next(), Ok(NextLine::End { number: 4 }));
+    assert!(rt; reader.next() == Ok(NextLine::End { number: 4 }));
     let (line, rest) = first_line(b"step 7\nlast").expect(&rt, "a line");
     assert!(rt; line == b"step 7".as_slice());
     assert!(rt; first_line(rest).is_some_and(|found| found.0 == b"last".as_slice()));
@@ -90,8 +90,8 @@ fn lines_words_and_numbers_are_read(rt: HostRuntime) {
         (b"00", 9, None),
     ];
     for (word, most, number) in numbers {
-        assert_eq!(rt; parse_number(word, most), number);
-        assert_eq!(rt; is_number(word), word != b"00".as_slice());
+        assert!(rt; parse_number(word, most) == number);
+        assert!(rt; is_number(word) == (word != b"00".as_slice()));
     }
 }
 
@@ -106,9 +106,9 @@ fn errors_are_told_in_words(rt: HostRuntime) -> Result<(), Fail> {
         PushError::Memory,
         TooManyLines { line: 65_537 },
     )?;
-    assert_eq!(rt;
-        told.as_str(),
-        "bad hex; out of memory; bad hex; too many bytes; out of memory; line 65537: too many lines"
+    assert!(rt;
+        told.as_str()
+            == "bad hex; out of memory; bad hex; too many bytes; out of memory; line 65537: too many lines"
     );
     Ok(())
 }

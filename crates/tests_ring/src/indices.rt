@@ -28,9 +28,8 @@ fn bytes_that_wait_and_room(rt: HostRuntime) -> Result<(), Fail> {
         (LATE, 4, 0, 0),
     ];
     for (prod, cons, waiting, free) in rows {
-        assert_eq!(rt;
-            both(prod, cons, order),
-            (waiting, free),
+        assert!(rt;
+            both(prod, cons, order) == (waiting, free),
             "at {prod} {cons}"
         );
     }
@@ -52,7 +51,7 @@ fn places_wrap_with_the_index(rt: HostRuntime) -> Result<(), Fail> {
     ];
     for (number, index, want) in rows {
         let order = Order::new(number).ok_or("order")?;
-        assert_eq!(rt; place(index, order), want, "at {index} of {number}");
+        assert!(rt; place(index, order) == want, "at {index} of {number}");
     }
     Ok(())
 }

@@ -15,9 +15,9 @@ fn serves_with_an_object_of_the_callers(rt: HostRuntime) -> Result<(), Fail> {
     let service = Boxed {
         inner: Box::new(alloc, Greeting)?,
     };
-    assert_eq!(rt;
-        answered(alloc, service, 1, &[HELLO, "9001000000000000"])?.as_str(),
-        "hello 3;stderr 1 68;stderr 1 69;stdout 0 -;stderr 0 -;exit -1;"
+    assert!(rt;
+        answered(alloc, service, 1, &[HELLO, "9001000000000000"])?.as_str()
+            == "hello 3;stderr 1 68;stderr 1 69;stdout 0 -;stderr 0 -;exit -1;"
     );
     Ok(())
 }

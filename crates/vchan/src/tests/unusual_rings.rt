@@ -86,7 +86,7 @@ fn pages_have_the_rings_of_the_file(rt: HostRuntime) -> Result<(), Fail> {
         let mut file = Vec::from_slice(rt.alloc(), ROW_RINGS)?;
         file.extend_from_slice(SIX_CALLS)?;
         let report = report_of_row(&rt, rt.alloc(), workers, file)?;
-        assert_eq!(rt; report.pages.len(), 9);
+        assert!(rt; report.pages.len() == 9);
     }
     Ok(())
 }
