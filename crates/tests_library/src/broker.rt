@@ -1,6 +1,6 @@
-//! Worked rows: two domains and their calls, all pairs of 32 domains, names that are cleaned, and a
-//! Terminated by a third domain. Contracts say the rest.
-ghost use Rattle.std.specs.Prelude.{◌≡◌, ◌≤◌, ◌*◌, OnOk, IfOk, All, length, vec_len};
+//! Worked rows: two domains and their calls, which `refusals` plays, all pairs of 32 domains, names that are
+//! cleaned, and a Terminated by a third domain. Contracts say the rest.
+ghost use Rattle.std.specs.Prelude.{◌≡◌, ◌≤◌, IfSome, IfOk, length};
 ghost use Rattle.call_broker.specs.Domains.{count_of};
 
 use crate::frames::{name_becomes, service_becomes, target_becomes, text};
@@ -8,9 +8,10 @@ use call_broker::{Broker, Cause, Decision, DomainEntry, Event};
 use std::alloc::Global;
 use std::process::Abort;
 use std::test::Fail;
+use vchan_io::Memory;
 
 /// An event as a row has it.
-#[derive(Clone, Copy, Debug)]
+#[derive(Clone, Copy)]
 enum Told {
     /// A trigger: its sender, target and service.
     Asks(u32, &'static str, &'static str),
@@ -48,10 +49,21 @@ macro_rules! ended {
 /// An event, and the decision on it.
 type Row = (Told, Decision);
 
-/// A broker of domains with these names, and this many pages for each ordered pair.
-fn broker_of(alloc: Global, names: &[&str], pages: &[u32]) -> Result<Broker, Fail>
-    ensures { IfOk result (λ broker. count_of broker.hub ≡ length names.now) }
+/// A broker of domains with these names, and this many pages for each ordered pair; or `None` if these are no
+/// pages of so many domains.
+pub(crate) fn broker_with(
+    alloc: Global,
+    names: &[&str],
+    pages: &[u32],
+) -> Result<Option<Broker>, Memory>
+    ensures { IfOk result (λ made. IfSome made (λ broker. count_of broker.hub ≡ length names.now)) }
 {
+    if names.len() > 32
+        || pages.len() != names.len() * names.len()
+        || !pages.iter().all(|p| *p <= 65_536)
+    {
+        return Ok(None);
+    }
     let mut domains = Vec::new(alloc);
     for name in names {
         domains.push(DomainEntry {
@@ -59,50 +71,87 @@ fn broker_of(alloc: Global, names: &[&str], pages: &[u32]) -> Result<Broker, Fai
         })?;
     }
     let pages = Vec::from_slice(alloc, pages)?;
-    if domains.len() > 32 || pages.len() != domains.len() * domains.len() {
-        return Err(Fail::from("not so many pages"));
+    Ok(Some(Broker::new(alloc, domains, pages)?))
+}
+
+/// The same where these are pages of so many domains.
+fn broker_of(alloc: Global, names: &[&str], pages: &[u32]) -> Result<Broker, Fail>
+    ensures { IfOk result (λ broker. count_of broker.hub ≡ length names.now) }
+{
+    match broker_with(alloc, names, pages)? {
+        Some(broker) => Ok(broker),
+        None => Err(Fail::from("other pages")),
     }
-    if !pages.iter().all(|p| *p <= 65_536) {
-        return Err(Fail::from("too many pages"));
-    }
-    Ok(Broker::new(alloc, domains, pages)?)
 }
 
 /// The number of a domain, if it is one.
-fn in_range(number: u32, domains: u32) -> Result<u32, Fail>
-    ensures { IfOk result (λ n. (1 ≤ n) × (n ≤ domains)) }
+fn in_range(number: u32, domains: u32) -> Option<u32>
+    ensures { IfSome result (λ n. (1 ≤ n) × (n ≤ domains)) }
 {
     if 1 <= number && number <= domains {
-        Ok(number)
+        Some(number)
     } else {
-        Err(Fail::from("no domain"))
+        None
     }
 }
 
-fn tell(alloc: Global, broker: &mut Broker, domains: u32, told: Told) -> Result<Decision, Fail>
+/// Tells the broker an event. Returns what it decides, or `None` if the event comes from no domain of it.
+fn tell(
+    alloc: Global,
+    broker: &mut Broker,
+    domains: u32,
+    told: Told,
+) -> Result<Option<Decision>, Memory>
     requires { count_of broker.old.hub ≡ domains }
     ensures { count_of broker.new.hub ≡ domains }
 {
-    match told {
-        Told::Asks(from, target, service) => {
-            let from = in_range(from, domains)?;
+    let (Told::Asks(from, ..) | Told::Ends(from, ..) | Told::Drops(from)) = told;
+    let Some(from) = in_range(from, domains) else {
+        return Ok(None);
+    };
+    let decision = match told {
+        Told::Asks(_, target, service) => {
             let target = text(alloc, target)?;
             let service = text(alloc, service)?;
             let ident = text(alloc, "call-1")?;
-            Ok(broker.event(Event::Trigger {
+            broker.event(Event::Trigger {
                 from,
                 target,
                 service,
                 ident,
-            })?)
+            })?
         }
-        Told::Ends(from, other, port) => {
-            let from = in_range(from, domains)?;
-            Ok(broker.event(Event::Terminated { from, other, port })?)
-        }
-        Told::Drops(domain) => {
-            let domain = in_range(domain, domains)?;
-            Ok(broker.event(Event::Dropped { domain })?)
+        Told::Ends(_, other, port) => broker.event(Event::Terminated { from, other, port })?,
+        Told::Drops(_) => broker.event(Event::Dropped { domain: from })?,
+    };
+    Ok(Some(decision))
+}
+
+/// How long the journal is, what was decided last, and how many calls are live each way between the first two
+/// domains.
+fn standing(broker: &Broker) -> (usize, Option<Decision>, u32, u32) {
+    let journal = broker.journal();
+    let last = journal.last().map(|entry| entry.decision);
+    (journal.len(), last, broker.live(1, 2), broker.live(2, 1))
+}
+
+/// Tells the broker an event. If memory is refused, the broker must be as before, and is told the same event
+/// again.
+fn decided(
+    rt: &(impl Abort + AllocGlobal),
+    broker: &mut Broker,
+    domains: u32,
+    told: Told,
+) -> Result<Option<Decision>, Memory>
+    requires { count_of broker.old.hub ≡ domains }
+    ensures { count_of broker.new.hub ≡ domains }
+{
+    let before = standing(broker);
+    match tell(rt.alloc(), broker, domains, told) {
+        Ok(decision) => Ok(decision),
+        Err(Memory) => {
+            assert!(rt; standing(broker) == before);
+            tell(rt.alloc(), broker, domains, told)
         }
     }
 }
@@ -113,13 +162,13 @@ fn check_rows(
     broker: &mut Broker,
     domains: u32,
     rows: &[Row],
-) -> Result<(), Fail>
+) -> Result<(), Memory>
     requires { count_of broker.old.hub ≡ domains }
     ensures { count_of broker.new.hub ≡ domains }
 {
-    for (told, decision) in rows {
-        let decided = tell(rt.alloc(), broker, domains, *told)?;
-        assert_eq!(rt; decided, *decision, "{told:?}");
+    for (at, (told, decision)) in rows.iter().enumerate() {
+        let decided = decided(rt, broker, domains, *told)?;
+        assert!(rt; decided == Some(*decision), "row {at}");
     }
     Ok(())
 }
@@ -150,26 +199,23 @@ const ASKS_B: Told = Told::Asks(1, "b", "echo");
 
 /// Sixteen calls from `a` to `b`, and then the rows. The caller owns the broker, so that it is dropped at one
 /// place.
-fn check_two_domains(rt: &(impl Abort + AllocGlobal), broker: &mut Broker) -> Result<(), Fail>
+pub(crate) fn check_two_domains(
+    rt: &(impl Abort + AllocGlobal),
+    broker: &mut Broker,
+) -> Result<(), Memory>
     requires { count_of broker.old.hub ≡ 2 }
 {
     for call in 0..16 {
         let port = 513 + 2 * call;
         check_rows(rt, broker, 2, &[(ASKS_B, accepted!(2, port))])?;
     }
-    assert_eq!(rt; broker.live(1, 2), 16);
+    assert!(rt; broker.live(1, 2) == 16);
     check_rows(rt, broker, 2, TWO_DOMAINS)?;
-    assert_eq!(rt; broker.live(1, 2), 0);
-    assert_eq!(rt; broker.live(1, 3), 0);
-    assert_eq!(rt; broker.name(2).bytes(), b"b".as_slice());
-    assert_eq!(rt; broker.journal().len(), 16 + TWO_DOMAINS.len());
+    assert!(rt; broker.live(1, 2) == 0);
+    assert!(rt; broker.live(1, 3) == 0);
+    assert!(rt; broker.name(2).bytes() == b"b".as_slice());
+    assert!(rt; broker.journal().len() == 16 + TWO_DOMAINS.len());
     Ok(())
-}
-
-#[test]
-fn two_domains(rt: HostRuntime) -> Result<(), Fail> {
-    let mut broker = broker_of(rt.alloc(), &["a", "b"], &[0, 20, 1, 0])?;
-    check_two_domains(&rt, &mut broker)
 }
 
 /// Domains `a`, `b` and `c` with one page for each ordered pair.
@@ -179,18 +225,18 @@ const STRANGER: &[Row] = &[
     (Told::Ends(3, 2, 513), Decision::PassedOver),
 ];
 
-fn check_stranger(rt: &(impl Abort + AllocGlobal), broker: &mut Broker) -> Result<(), Fail>
+fn check_stranger(rt: &(impl Abort + AllocGlobal), broker: &mut Broker) -> Result<(), Memory>
     requires { count_of broker.old.hub ≡ 3 }
 {
     check_rows(rt, broker, 3, STRANGER)?;
-    assert_eq!(rt; broker.live(1, 2), 1);
+    assert!(rt; broker.live(1, 2) == 1);
     Ok(())
 }
 
 #[test]
 fn terminated_by_stranger(rt: HostRuntime) -> Result<(), Fail> {
     let mut broker = broker_of(rt.alloc(), &["a", "b", "c"], &[0, 1, 1, 1, 0, 1, 1, 1, 0])?;
-    check_stranger(&rt, &mut broker)
+    Ok(check_stranger(&rt, &mut broker)?)
 }
 
 /// Domains `a` and `b_` with one page for each ordered pair.
@@ -202,7 +248,7 @@ const CLEANED: &[Row] = &[
 
 fn check_cleaned(rt: &(impl Abort + AllocGlobal)) -> Result<(), Fail> {
     let mut broker = broker_of(rt.alloc(), &["a", "b_"], &[0, 1, 1, 0])?;
-    check_rows(rt, &mut broker, 2, CLEANED)
+    Ok(check_rows(rt, &mut broker, 2, CLEANED)?)
 }
 
 #[test]
@@ -227,7 +273,7 @@ fn ask_all_pairs(
     rt: &(impl Abort + AllocGlobal),
     broker: &mut Broker,
     round: u32,
-) -> Result<(), Fail>
+) -> Result<(), Memory>
     requires count { count_of broker.old.hub ≡ 32 }
     requires rounds { round ≤ 5 }
     ensures { count_of broker.new.hub ≡ 32 }
@@ -240,25 +286,26 @@ fn ask_all_pairs(
             let first = if from < to { 513 } else { 514 };
             let asks = Told::Asks(from, NAMES[to as usize - 1], "echo");
             let decided = tell(rt.alloc(), broker, 32, asks)?;
-            assert_eq!(rt; decided, accepted!(to, first + 2 * round), "{asks:?}");
+            let wanted = accepted!(to, first + 2 * round);
+            assert!(rt; decided == Some(wanted), "from {from} to {to}");
         }
     }
     Ok(())
 }
 
 /// Five rounds.
-fn check_rounds(rt: &(impl Abort + AllocGlobal), broker: &mut Broker) -> Result<(), Fail>
+fn check_rounds(rt: &(impl Abort + AllocGlobal), broker: &mut Broker) -> Result<(), Memory>
     requires { count_of broker.old.hub ≡ 32 }
 {
     for round in 0..5 {
         ask_all_pairs(rt, broker, round)?;
     }
-    assert_eq!(rt; broker.journal().len(), 4960);
+    assert!(rt; broker.journal().len() == 4960);
     Ok(())
 }
 
 #[test]
 fn all_pairs(rt: HostRuntime) -> Result<(), Fail> {
     let mut broker = broker_of(rt.alloc(), &NAMES, &[5; 1024])?;
-    check_rounds(&rt, &mut broker)
+    Ok(check_rounds(&rt, &mut broker)?)
 }

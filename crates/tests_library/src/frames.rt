@@ -34,8 +34,12 @@ fn lends_bodies(rt: HostRuntime) -> Result<(), Fail> {
     check_body(&rt, &mut Decoder::new(rt.alloc(), Channel::Data), &bytes)
 }
 
-pub(crate) fn text(alloc: Global, text: &str) -> Result<Text, Fail> {
-    Ok(Text::of(alloc, text.as_bytes())?)
+/// Makes a text of bytes without a NUL, so that only memory can be wanting.
+pub(crate) fn text(alloc: Global, text: &str) -> Result<Text, Memory> {
+    match Text::of(alloc, text.as_bytes()) {
+        Ok(text) => Ok(text),
+        Err(_) => Err(Memory),
+    }
 }
 
 // Whether a cleaning call gives these bytes, in functions of their own: what a contract says of a text, and
