@@ -10,6 +10,7 @@ use control_port::{ControlPort, Talker};
 use qrexec_frame::{Message, Text, fits};
 use ring_words::check_orders;
 use std::alloc::Global;
+use std::process::Abort;
 use std::test::Fail;
 use task_duties::TaskTurn;
 use vchan_io::Memory;
@@ -87,22 +88,31 @@ fn hears_ends(broker: &mut ControlPort) -> Result<bool, Fail>
 {
     broker.drain(&mut [0; 256])?;
     for (_, domain, port, _) in COMMANDS {
-        if broker.fault().is_some() || !is_end(broker.next()?, domain, port) {
+        if !hears_end(broker, domain, port)? {
             return Ok(false);
         }
     }
     Ok(true)
 }
 
+/// Returns whether the next message reports that this session has ended.
+fn hears_end(broker: &mut ControlPort, domain: u32, port: u32) -> Result<bool, Fail> {
+    if broker.fault().is_some() {
+        return Ok(false);
+    }
+    let message = broker.next()?;
+    Ok(is_end(message.as_ref(), domain, port))
+}
+
 /// Returns whether a message reports that this session has ended.
-fn is_end(message: Option<Message>, domain: u32, port: u32) -> bool {
+fn is_end(message: Option<&Message>, domain: u32, port: u32) -> bool {
     match message {
         Some(
             Message::Terminated {
                 domain: with,
                 port: at,
             },
-        ) => with == domain && at == port,
+        ) => *with == domain && *at == port,
         _ => false,
     }
 }
@@ -147,13 +157,41 @@ fn turns_twice(agent: AgentTask<'_>) -> bool {
     }
 }
 
+// Each of these functions owns one thing at most, and its last line lends it to the next: what a test owns is
+// proved to be dropped at each exit.
 #[test]
 fn an_agent_ends_what_it_does_not_serve(rt: HostRuntime) -> Result<(), Fail> {
-    let alloc = rt.alloc();
-    let (page, server, client) = Page::open(alloc, check_orders(10, 11)?, 0)?;
-    let mut broker = broker_of(alloc, &page, client)?;
-    assert!(rt; say_all(alloc, &mut broker)?);
-    assert!(rt; turns_twice(agent_of(alloc, &page, server)?));
-    assert!(rt; hears_ends(&mut broker)?);
+    let (page, server, client) = Page::open(rt.alloc(), check_orders(10, 11)?, 0)?;
+    check_agent(&rt, &page, server, client)
+}
+
+/// Checks the agent of a page.
+fn check_agent(
+    rt: &(impl Abort + AllocGlobal),
+    page: &Page,
+    server: IdleSeat,
+    client: IdleSeat,
+) -> Result<(), Fail>
+    requires server { server ≡ record { page = page.now; role = Server } }
+    requires client { client ≡ record { page = page.now; role = Client } }
+{
+    let mut broker = broker_of(rt.alloc(), page, client)?;
+    check_answers(rt, page, server, &mut broker)
+}
+
+/// Checks what the agent of a page answers to all commands in two turns.
+fn check_answers(
+    rt: &(impl Abort + AllocGlobal),
+    page: &Page,
+    server: IdleSeat,
+    broker: &mut ControlPort,
+) -> Result<(), Fail>
+    requires server { server ≡ record { page = page.now; role = Server } }
+    requires open { IsOpen broker.old.end }
+    requires talker { broker.old.talker ≡ Broker }
+{
+    assert!(rt; say_all(rt.alloc(), broker)?);
+    assert!(rt; turns_twice(agent_of(rt.alloc(), page, server)?));
+    assert!(rt; hears_ends(broker)?);
     Ok(())
 }

@@ -1,10 +1,12 @@
 //! What the broker holds back: no caller is told to connect before its target was told to serve.
-ghost use Rattle.std.specs.Prelude.{◌≡◌, ◌≤◌, IfOk, length};
+ghost use Rattle.std.specs.Prelude.{◌≡◌, ◌≤◌, [], IfOk, OnOk, length};
 ghost use Rattle.qrexec_frame.specs.Messages.{HasNumbers};
-ghost use Rattle.ring_words.specs.declared.page.Role.TheVariants.{Server};
+ghost use Rattle.ring_words.specs.declared.page.Role.TheVariants.{Server, Client};
 ghost use Rattle.vchan_rule.specs.Seated.{IsOpen};
+ghost use Rattle.call_broker.specs.Domains.{count_of};
 ghost use Rattle.control_port.specs.declared.talk.Talker.TheVariants.{Agent};
 ghost use Rattle.broker_task.specs.Given.{IsNewClient};
+ghost use Rattle.broker_task.specs.Replies.{HasShortNames};
 
 use broker_task::BrokerTask;
 use call_broker::{Broker, DomainEntry};
@@ -12,6 +14,7 @@ use control_port::{ControlPort, Talker};
 use qrexec_frame::{Message, Text, fits};
 use ring_words::check_orders;
 use std::alloc::Global;
+use std::process::Abort;
 use std::test::Fail;
 use task_duties::TaskTurn;
 use vchan_io::Memory;
@@ -40,23 +43,27 @@ fn name_of(alloc: Global, name: &[u8]) -> Result<Text, Fail>
     Ok(Text::of(alloc, name)?)
 }
 
-/// Makes the task of the broker of two domains, with its ends of their control pages.
+/// Makes the broker of two domains, the first of which may call the second.
+fn broker_of(alloc: Global) -> Result<Broker, Fail>
+    ensures domains { IfOk result (λ broker. count_of broker.hub ≡ 2) }
+    ensures names { IfOk result (λ broker. HasShortNames broker.hub) }
+    ensures journal { IfOk result (λ broker. broker.journal ≡ []) }
+{
+    let pages = Vec::from_array(alloc, [0, CALLS, 0, 0])?;
+    let caller = name_of(alloc, CALLER)?;
+    let target = name_of(alloc, TARGET)?;
+    let domains = [DomainEntry { name: caller }, DomainEntry { name: target }];
+    Ok(Broker::new(alloc, Vec::from_array(alloc, domains)?, pages)?)
+}
+
+/// Makes the task of this broker, with its ends of the control pages.
 fn task_of<'p>(alloc: Global, first: End<'p>, second: End<'p>) -> Result<BrokerTask<'p>, Fail>
     requires first { IsNewClient first }
     requires second { IsNewClient second }
 {
-    let mut domains = Vec::new(alloc);
-    let name = name_of(alloc, CALLER)?;
-    domains.push(DomainEntry { name })?;
-    let name = name_of(alloc, TARGET)?;
-    domains.push(DomainEntry { name })?;
-    let pages = Vec::from_array(alloc, [0, CALLS, 0, 0])?;
-    let broker = Broker::new(alloc, domains, pages)?;
+    let controls = Vec::from_array(alloc, [first, second])?;
     let awaited = Vec::from_array(alloc, [CALLS, 0])?;
-    let mut controls = Vec::new(alloc);
-    controls.push(first)?;
-    controls.push(second)?;
-    match BrokerTask::new(alloc, broker, awaited, controls) {
+    match BrokerTask::new(alloc, broker_of(alloc)?, awaited, controls) {
         Ok(task) => Ok(task),
         Err(_ends) => Err(Memory.into()),
     }
@@ -147,9 +154,21 @@ fn hears_connect(caller: &mut ControlPort) -> Result<bool, Fail>
     Ok(matches!(caller.next()?, Some(Message::Connect { .. })))
 }
 
-/// Returns the task after two turns, so that in the second one each domain hears what came of the first.
-fn turned_twice(task: BrokerTask<'_>) -> Option<BrokerTask<'_>> {
-    turned(turned(task)?)
+/// Returns the task after two turns, so that in the second one each domain hears what came of the first. The
+/// caller must hear `count` Connects then, and no more.
+fn turned_twice<'p>(
+    task: BrokerTask<'p>,
+    caller: &mut ControlPort,
+    count: u32,
+) -> Result<BrokerTask<'p>, Fail>
+    requires { IsOpen caller.old.end }
+    ensures { OnOk result (IsOpen caller.new.end) }
+{
+    let task = turned(task).and_then(turned).ok_or("no more turns")?;
+    if !hears_connects(caller, count)? {
+        return Err("other Connects".into());
+    }
+    Ok(task)
 }
 
 /// Returns the task after a turn, if it wants another.
@@ -161,39 +180,65 @@ fn turned(task: BrokerTask<'_>) -> Option<BrokerTask<'_>> {
     }
 }
 
-/// Returns whether the caller hears the Connects of the calls whose Exec was sent, and no others until the
-/// target has read.
-fn holds_back(
-    task: BrokerTask<'_>,
+/// Checks that the caller hears the Connects of the calls whose Exec was sent, and no others until the target
+/// has read.
+fn check_connects<'p>(
+    alloc: Global,
     caller: &mut ControlPort,
     target: &mut ControlPort,
-) -> Result<bool, Fail>
+    first: End<'p>,
+    second: End<'p>,
+) -> Result<(), Fail>
     requires caller { IsOpen caller.old.end }
     requires target { IsOpen target.old.end }
+    requires first { IsNewClient first }
+    requires second { IsNewClient second }
 {
-    let task = turned_twice(task).ok_or("no more turns")?;
-    if !hears_connects(caller, WITH_ROOM)? {
-        return Ok(false);
-    }
-    let task = turned_twice(task).ok_or("no more turns")?;
-    if !hears_connects(caller, 0)? {
-        return Ok(false);
-    }
+    let task = task_of(alloc, first, second)?;
+    let task = turned_twice(task, caller, WITH_ROOM)?;
+    let task = turned_twice(task, caller, 0)?;
     target.drain(&mut [0; 1_024])?;
-    let _task = turned_twice(task).ok_or("no more turns")?;
-    hears_connects(caller, CALLS - WITH_ROOM)
+    turned_twice(task, caller, CALLS - WITH_ROOM)?;
+    Ok(())
 }
 
+// Each of these functions owns little, and its last line lends it to the next: what a test owns is proved to be
+// dropped at each exit.
 #[test]
 fn a_connect_waits_for_its_exec(rt: HostRuntime) -> Result<(), Fail> {
-    let alloc = rt.alloc();
     let orders = check_orders(10, 11)?;
-    let (first, caller, to_caller) = Page::open(alloc, orders, 0)?;
-    let (second, target, to_target) = Page::open(alloc, orders, 0)?;
-    let task = task_of(alloc, first.attach(to_caller), second.attach(to_target))?;
-    let mut caller = agent_of(alloc, &first, caller)?;
-    let mut target = agent_of(alloc, &second, target)?;
-    assert!(rt; ask_all(alloc, &mut caller)?);
-    assert!(rt; holds_back(task, &mut caller, &mut target)?);
-    Ok(())
+    let (first, caller, to_caller) = Page::open(rt.alloc(), orders, 0)?;
+    let (second, target, to_target) = Page::open(rt.alloc(), orders, 0)?;
+    let mut caller = agent_of(rt.alloc(), &first, caller)?;
+    check_caller(
+        &rt,
+        &mut caller,
+        &first,
+        &second,
+        to_caller,
+        target,
+        to_target,
+    )
+}
+
+/// Checks what comes to the caller, on the first page, while the target, on the second one, doesn't read.
+fn check_caller(
+    rt: &(impl Abort + AllocGlobal),
+    caller: &mut ControlPort,
+    first: &Page,
+    second: &Page,
+    to_caller: IdleSeat,
+    target: IdleSeat,
+    to_target: IdleSeat,
+) -> Result<(), Fail>
+    requires open { IsOpen caller.old.end }
+    requires talker { caller.old.talker ≡ Agent }
+    requires to_caller { to_caller ≡ record { page = first.now; role = Client } }
+    requires target { target ≡ record { page = second.now; role = Server } }
+    requires to_target { to_target ≡ record { page = second.now; role = Client } }
+{
+    assert!(rt; ask_all(rt.alloc(), caller)?);
+    let mut target = agent_of(rt.alloc(), second, target)?;
+    let (first, second) = (first.attach(to_caller), second.attach(to_target));
+    check_connects(rt.alloc(), caller, &mut target, first, second)
 }
