@@ -1,32 +1,13 @@
-//! The program `vchan`: its words, its input and its output, and the call that does all its work.
+//! The program `vchan`: `top` of `vchan_top` over standard input, standard output and standard error.
 //!
-//! `top` is the whole program over any source and any two sinks, and its contract is what the program
-//! promises. `main` only makes the real source and sinks: standard input, standard output and standard error.
 //! Above `top` it only does three things: it prints texts about the program, as for `--help`; it prints the
 //! line of progress; and it leaves what `top` returns to the end of the process.
 #![tactic(auto)]
 
-mod about;
-mod channels;
-mod clients;
-mod command;
 mod progress;
-mod run_end;
-mod runs;
-mod service_name;
-mod status;
-mod top;
-mod work;
 
-pub use about::{About, about_in, tell};
-use command::command_words;
 use progress::Progress;
-pub use run_end::RunEnd;
-pub use run_report::Report;
-use runs::leave_to_exit;
-pub use runs::load_text;
 use service_gate::Gate;
-pub use status::{Bad, Status, exit_number};
 use std::alloc::Global;
 use std::env;
 use std::io::IsTerminal;
@@ -35,9 +16,9 @@ use std::rt::Env;
 use std::sync::Wait;
 use std::thread::Threads;
 use std::time::Clock;
-pub use stream_text::{Channel, DecodeError, DecodeKind, decode_text};
-pub use top::{GREATEST_INPUT, top};
 use vchan_io::{Sink, Source, StdSink, StdSource};
+use vchan_top::{about_in, command_words, exit_number, leave_to_exit, tell};
+pub use vchan_top::{GREATEST_INPUT, Report, RunEnd, Status, top};
 
 fn main(rt: HostRuntime) -> ExitCode {
     let mut source = StdSource::new(rt.stdin());
@@ -92,6 +73,3 @@ fn carry_out<S: Source, K: Sink, E: Sink, G: Gate, R: Threads + Wait + Clock + S
         }
     }
 }
-
-#[cfg(test)]
-mod tests;

@@ -1,0 +1,5 @@
+pub mod Endings
+pub mod LoadLaws
+pub mod Pieces
+pub mod RelayLaws
+pub mod NameLaws

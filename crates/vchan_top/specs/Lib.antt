@@ -1,0 +1,9 @@
+pub mod About
+pub mod Command
+pub mod EndOfRun
+pub mod Prints
+pub mod Clients
+pub mod Relays
+pub mod Status
+pub mod Sums
+pub mod Top
