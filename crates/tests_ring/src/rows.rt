@@ -4,7 +4,7 @@ ghost use Rattle.ring_words.specs.declared.page.Role.TheVariants.{Server, Client
 ghost use Rattle.vchan_rule.specs.Seated.{view, IsOpen};
 ghost use Rattle.vchan_rule.specs.Ends.{IsSameEnd};
 ghost use Rattle.ring_words.specs.Rings.{size};
-ghost use Rattle.tests_ring.specs.Rows.{HasCounts, HasMoved, IsNew, IsUnderWay};
+ghost use Rattle.tests_ring.specs.Rows.{AreBetween, AreUnused, HasCounts, IsNew, IsRow, IsUnderWay, moved_on};
 
 use crate::whole::{
     check_bytes, drain_all, drain_none, end_stream, letters, read_all, read_none, receive_none,
@@ -16,7 +16,7 @@ use std::alloc::Global;
 use vchan_core::{Answer, Call, EndState};
 use vchan_lifecycle::{close, connect, retire};
 use vchan_notify::{buffer_space, data_ready, peer_gone, take_event};
-use vchan_rule::{End, IdleSeat, Page, Settled};
+use vchan_rule::{End, IdleSeat, Page, Retired, Settled};
 
 fn small_page(alloc: Global) -> Option<(Page, IdleSeat, IdleSeat)>
     ensures seats { IfSome result (λ p. (p.1 ≡ record { page = p.0; role = Server }) × (p.2 ≡ record { page = p.0; role = Client })) }
@@ -54,76 +54,116 @@ fn connected<'p>(page: &'p Page, server: IdleSeat, client: IdleSeat) -> Option<(
     }
 }
 
-/// A client connects, the server finds nothing to drain, and both retire.
-pub fn fresh_page(alloc: Global) -> Option<Settled>
-    ensures { IfSome result (λ page. HasMoved page [] [] [] []) }
+/// What two honest ends do on a new page whose client has connected.
+#[derive(Clone, Copy)]
+pub enum Row {
+    /// The server finds nothing to drain.
+    Fresh,
+    /// The client writes five bytes, and the server reads them.
+    FiveBytes,
+    /// The client writes one byte more than the ring holds, and then another.
+    FullRing,
+    /// The client sends a packet that fills the ring, and another has no room. The server gets four bytes
+    /// of it, and then asks for one more than wait.
+    Packets,
+    /// The client sends a packet that is longer than the ring.
+    LongPacket,
+    /// A server that found nothing to read is signalled once for two writes.
+    Events,
+}
+
+/// Plays a row on a new page. Returns `None` if an answer isn't that of the row.
+pub fn play(alloc: Global, row: Row) -> Option<Settled>
+    ensures { IfSome result (λ page. IsRow row (page.client.sent, page.server.got, page.server.sent, page.client.got)) }
 {
     let (page, server, client) = small_page(alloc)?;
-    let (mut server, client) = connected(&page, server, client)?;
-    drain_none(&mut server, &mut [0; 4], 0, 0)?;
-    if client.state() != EndState::Open {
-        return None;
+    let (mut server, mut client) = connected(&page, server, client)?;
+    moves(row, &mut server, &mut client)?;
+    let server = retire(server);
+    let client = retire(client);
+    Some(page.finish(server, client))
+}
+
+/// Makes the moves of a row. Returns `None` if an answer isn't that of the row.
+fn moves(row: Row, server: &mut End<'_>, client: &mut End<'_>) -> Option<()>
+    requires unused { AreUnused server.old client.old }
+    ensures between { IfSome result (λ _. AreBetween server.old server.new client.old client.new) }
+    ensures row { IfSome result (λ _. IsRow row (moved_on server.new client.new)) }
+{
+    match row {
+        Row::Fresh => finds_nothing(server, client),
+        Row::FiveBytes => five_bytes(server, client),
+        Row::FullRing => full_ring(server, client),
+        Row::Packets => packets(server, client),
+        Row::LongPacket => long_packet(server, client),
+        Row::Events => events(server, client),
     }
-    let server = retire(server);
-    let client = retire(client);
-    Some(page.finish(server, client))
 }
 
-/// A client writes five bytes, and the server reads them.
-pub fn five_bytes(alloc: Global) -> Option<Settled>
-    ensures { IfSome result (λ page. HasMoved page (codes "hello") (codes "hello") [] []) }
+// The moves of each row.
+fn finds_nothing(server: &mut End<'_>, client: &mut End<'_>) -> Option<()>
+    requires unused { AreUnused server.old client.old }
+    ensures between { IfSome result (λ _. AreBetween server.old server.new client.old client.new) }
+    ensures row { IfSome result (λ _. IsRow Row.Fresh (moved_on server.new client.new)) }
 {
-    let (page, server, client) = small_page(alloc)?;
-    let (mut server, mut client) = connected(&page, server, client)?;
+    drain_none(server, &mut [0; 4], 0, 0)?;
+    (client.state() == EndState::Open).then_some(())
+}
+
+fn five_bytes(server: &mut End<'_>, client: &mut End<'_>) -> Option<()>
+    requires unused { AreUnused server.old client.old }
+    ensures between { IfSome result (λ _. AreBetween server.old server.new client.old client.new) }
+    ensures row { IfSome result (λ _. IsRow Row.FiveBytes (moved_on server.new client.new)) }
+{
     let mut bytes = [0; 5];
-    write_all(&mut client, b"hello")?;
-    read_all(&mut server, &mut bytes)?;
-    check_bytes(&bytes, b"hello")?;
-    let server = retire(server);
-    let client = retire(client);
-    Some(page.finish(server, client))
+    write_all(client, b"hello")?;
+    read_all(server, &mut bytes)?;
+    check_bytes(&bytes, b"hello")
 }
 
-/// A client writes one byte more than the ring holds, and then another.
-pub fn full_ring(alloc: Global) -> Option<Settled>
-    ensures { IfSome result (λ page. HasCounts page 1024 0 0 0) }
+fn full_ring(server: &mut End<'_>, client: &mut End<'_>) -> Option<()>
+    requires unused { AreUnused server.old client.old }
+    ensures between { IfSome result (λ _. AreBetween server.old server.new client.old client.new) }
+    ensures row { IfSome result (λ _. IsRow Row.FullRing (moved_on server.new client.new)) }
 {
-    let (page, server, client) = small_page(alloc)?;
-    let (server, mut client) = connected(&page, server, client)?;
-    write_some(&mut client, letters(1025), 1024)?;
-    write_none(&mut client, b"b", 1024, 0)?;
-    let server = retire(server);
-    let client = retire(client);
-    Some(page.finish(server, client))
+    write_some(client, letters(1025), 1024)?;
+    write_none(client, b"b", 1024, 0)
 }
 
-/// A client sends a packet that fills the ring, and another has no room. The server gets four bytes
-/// of it, and then asks for one more than wait.
-pub fn packets(alloc: Global) -> Option<(Settled, [u8; 4])>
-    ensures { IfSome result (λ p. HasCounts p.0 1024 4 0 0 × (p.0.server.got ≡ p.1)) }
+fn packets(server: &mut End<'_>, client: &mut End<'_>) -> Option<()>
+    requires unused { AreUnused server.old client.old }
+    ensures between { IfSome result (λ _. AreBetween server.old server.new client.old client.new) }
+    ensures row { IfSome result (λ _. IsRow Row.Packets (moved_on server.new client.new)) }
 {
-    let (page, server, client) = small_page(alloc)?;
-    let (mut server, mut client) = connected(&page, server, client)?;
-    send_whole(&mut client, letters(1024))?;
-    send_none(&mut client, b"b", 1024, 0)?;
     let mut bytes = [0; 4];
-    receive_whole(&mut server, &mut bytes)?;
-    receive_none(&mut server, &mut [0; 1021], 1024, 4)?;
-    let server = retire(server);
-    let client = retire(client);
-    Some((page.finish(server, client), bytes))
+    send_whole(client, letters(1024))?;
+    send_none(client, b"b", 1024, 0)?;
+    receive_whole(server, &mut bytes)?;
+    receive_none(server, &mut [0; 1021], 1024, 4)?;
+    check_bytes(&bytes, b"aaaa")
 }
 
-/// A client sends a packet that is longer than the ring.
-pub fn long_packet(alloc: Global) -> Option<Settled>
-    ensures { IfSome result (λ page. HasMoved page [] [] [] []) }
+fn long_packet(server: &mut End<'_>, client: &mut End<'_>) -> Option<()>
+    requires unused { AreUnused server.old client.old }
+    ensures between { IfSome result (λ _. AreBetween server.old server.new client.old client.new) }
+    ensures row { IfSome result (λ _. IsRow Row.LongPacket (moved_on server.new client.new)) }
 {
-    let (page, server, client) = small_page(alloc)?;
-    let (server, mut client) = connected(&page, server, client)?;
-    send_none(&mut client, letters(1025), 0, 0)?;
-    let server = retire(server);
-    let client = retire(client);
-    Some(page.finish(server, client))
+    send_none(client, letters(1025), 0, 0)
+}
+
+fn events(server: &mut End<'_>, client: &mut End<'_>) -> Option<()>
+    requires unused { AreUnused server.old client.old }
+    ensures between { IfSome result (λ _. AreBetween server.old server.new client.old client.new) }
+    ensures row { IfSome result (λ _. IsRow Row.Events (moved_on server.new client.new)) }
+{
+    read_none(server, &mut [0; 1], 0, 0)?;
+    write_all(client, b"a")?;
+    write_all(client, b"b")?;
+    if take_event(server) && !take_event(server) {
+        Some(())
+    } else {
+        None
+    }
 }
 
 /// Makes this many events of a call under way that sends nothing, or fewer if its answer comes before.
@@ -142,26 +182,38 @@ fn make_events(end: &mut End<'_>, most: u32, buf: &mut [u8]) -> Option<Answer>
     None
 }
 
-/// A server has begun a read and found no byte when the client writes two and closes. The read then finds
+/// A server has begun a read and found no byte when its client writes two and closes. The read then finds
 /// the client shut, a drain still finds the bytes, and a second one that all was read.
-pub fn closed_race(alloc: Global) -> Option<Settled>
-    ensures { IfSome result (λ page. HasMoved page (codes "ab") (codes "ab") [] []) }
+fn race(server: &mut End<'_>, client: &mut End<'_>) -> Option<()>
+    requires unused { AreUnused server.old client.old }
+    ensures between { IfSome result (λ _. AreBetween server.old server.new client.old client.new) }
+    ensures sent { IfSome result (λ _. ((view client.new).sent ≡ codes "ab") × ((view server.new).sent ≡ []) × ((view client.new).got ≡ [])) }
+    ensures drained { IfSome result (λ _. (view server.new).drained ≡ true) }
 {
-    let (page, server, client) = small_page(alloc)?;
-    let (mut server, mut client) = connected(&page, server, client)?;
     let mut bytes = [0; 8];
     server.begin(Call::Read { most: 4 });
-    if let Some(_) = make_events(&mut server, 3, &mut bytes) {
+    if let Some(_) = make_events(server, 3, &mut bytes) {
         return None;
     }
-    write_all(&mut client, b"ab")?;
-    close(&mut client);
-    let answer = make_events(&mut server, 8, &mut bytes);
+    write_all(client, b"ab")?;
+    close(client);
+    let answer = make_events(server, 8, &mut bytes);
     if answer != Some(Answer::PeerClosed) || !server.idle() || server.state() != EndState::Open {
         return None;
     }
-    drain_all(&mut server, &mut [0; 2])?;
-    end_stream(&mut server)?;
+    drain_all(server, &mut [0; 2])?;
+    end_stream(server)?;
+    Some(())
+}
+
+/// Plays that race. Only the contracts tell which bytes the server got: all that was sent, as its ring is
+/// drained.
+pub fn closed_race(alloc: Global) -> Option<Settled>
+    ensures { IfSome result (λ page. (page.client.sent ≡ codes "ab") × (page.server.got ≡ codes "ab") × (page.server.sent ≡ []) × (page.client.got ≡ [])) }
+{
+    let (page, server, client) = small_page(alloc)?;
+    let (mut server, mut client) = connected(&page, server, client)?;
+    race(&mut server, &mut client)?;
     let server = retire(server);
     let client = retire(client);
     let settled = page.finish(server, client);
@@ -181,16 +233,6 @@ fn all_was_got(page: &Settled)
     page.promise();
 }
 
-/// A server that found nothing to read is signalled once for two writes.
-pub fn events(alloc: Global) -> Option<(bool, bool)> {
-    let (page, server, client) = small_page(alloc)?;
-    let (mut server, mut client) = connected(&page, server, client)?;
-    read_none(&mut server, &mut [0; 1], 0, 0)?;
-    write_some(&mut client, b"a", 1)?;
-    write_some(&mut client, b"b", 1)?;
-    Some((take_event(&mut server), take_event(&mut server)))
-}
-
 /// What a server finds to read, what room a client finds, and whether the client is gone after it
 /// retired.
 pub fn ready_space_gone(alloc: Global) -> Option<(u32, u32, bool, bool)> {
@@ -203,17 +245,25 @@ pub fn ready_space_gone(alloc: Global) -> Option<(u32, u32, bool, bool)> {
     Some((ready, space, before, peer_gone(&mut server)))
 }
 
-/// A client writes six bytes, of which the server reads two. Then the client is turned, and its hostile
-/// user overwrites all six. Returns the four bytes that the server still drains.
-pub fn consumed_prefix(alloc: Global) -> Option<(Settled, [u8; 4])>
-    ensures { IfSome result (λ p. (p.0.client.sent ≡ codes "abcdef") × (p.0.server.got ≡ codes "ab" ++ p.1)) }
+/// A client writes six bytes, of which the server reads two.
+fn two_of_six(server: &mut End<'_>, client: &mut End<'_>) -> Option<()>
+    requires unused { AreUnused server.old client.old }
+    ensures between { AreBetween server.old server.new client.old client.new }
+    ensures open { IsOpen server.new × IsOpen client.new }
+    ensures moved { IfSome result (λ _. moved_on server.new client.new ≡ (codes "abcdef", codes "ab", [], [])) }
 {
-    let (page, server, client) = small_page(alloc)?;
-    let (mut server, mut client) = connected(&page, server, client)?;
     let mut first = [0; 2];
-    write_all(&mut client, b"abcdef")?;
-    read_all(&mut server, &mut first)?;
-    check_bytes(&first, b"ab")?;
+    write_all(client, b"abcdef")?;
+    read_all(server, &mut first)?;
+    check_bytes(&first, b"ab")
+}
+
+/// Turns a client, whose hostile user then stores the same byte at the first six places of its ring.
+fn overwritten(client: End<'_>) -> Retired
+    requires idle { (view client).idle ≡ true }
+    ensures same { (result.page ≡ client.entry.page) × (result.side.role ≡ client.entry.side.role) }
+    ensures sent { result.side.sent ≡ client.entry.side.sent }
+{
     let mut client = turn(client);
     'stores: for at in 0..6 {
         let word = WordName::RingByte {
@@ -224,12 +274,45 @@ pub fn consumed_prefix(alloc: Global) -> Option<(Settled, [u8; 4])>
             client.store(word, 99);
         }
     }
-    let client = client.retire();
+    client.retire()
+}
+
+/// Drains four bytes.
+fn four_more(server: &mut End<'_>) -> Option<[u8; 4]>
+    requires open { IsOpen server.old }
+    ensures same { IsSameEnd server.old server.new }
+    ensures open { IsOpen server.new }
+    ensures got { IfSome result (λ bytes. (view server.new).got ≡ (view server.old).got ++ bytes) }
+{
     let mut bytes = [0; 4];
-    drain_all(&mut server, &mut bytes)?;
+    drain_all(server, &mut bytes)?;
+    Some(bytes)
+}
+
+/// A client writes six bytes, of which the server reads two. Then the client is turned, and its hostile user
+/// overwrites all six. Returns the four bytes that the server still drains.
+pub fn consumed_prefix(alloc: Global) -> Option<(Settled, [u8; 4])>
+    ensures { IfSome result (λ p. (p.0.client.sent ≡ codes "abcdef") × (p.0.server.got ≡ codes "ab" ++ p.1)) }
+{
+    let (page, server, client) = small_page(alloc)?;
+    let (mut server, mut client) = connected(&page, server, client)?;
+    two_of_six(&mut server, &mut client)?;
+    let client = overwritten(client);
+    let bytes = four_more(&mut server)?;
     close(&mut server);
     let server = retire(server);
     Some((page.finish(server, client), bytes))
+}
+
+/// A client fills its ring, a server reads two bytes of it, and the client writes two more.
+fn filled_again(server: &mut End<'_>, client: &mut End<'_>) -> Option<()>
+    requires unused { AreUnused server.old client.old }
+    ensures between { AreBetween server.old server.new client.old client.new }
+    ensures moved { IfSome result (λ _. (length (view client.new).sent ≡ 1026) × (length (view server.new).got ≡ 2) × ((view server.new).sent ≡ []) × ((view client.new).got ≡ [])) }
+{
+    write_some(client, letters(1024), 1024)?;
+    read_all(server, &mut [0; 2])?;
+    write_some(client, b"bc", 2)
 }
 
 /// A server reads two bytes of a full ring, and the client fills it again. Then the client is turned. Only
@@ -240,9 +323,7 @@ pub fn consumed_of_full_ring(alloc: Global) -> Option<Settled>
 {
     let (page, server, client) = small_page(alloc)?;
     let (mut server, mut client) = connected(&page, server, client)?;
-    write_some(&mut client, letters(1024), 1024)?;
-    read_all(&mut server, &mut [0; 2])?;
-    write_some(&mut client, b"bc", 2)?;
+    filled_again(&mut server, &mut client)?;
     let client = turn(client).retire();
     let server = retire(server);
     let settled = page.finish(server, client);

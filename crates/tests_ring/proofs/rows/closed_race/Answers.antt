@@ -1,5 +1,0 @@
-use Rattle.std.proofs.Common.{rules}
-use Rattle.tests_ring.proofs.rows.closed_race.Goals as goal
-
-pub returns : goal.returns
-returns c = (search rules, search rules, search rules, search rules)
