@@ -21,6 +21,8 @@ impl PoolTask for Mixer {
 
     ghost owes = { λ task done. done ≡ owed task };
 
+    ghost turns = { λ _ _. Unit {0} };
+
     #[tactic(auto, using(crate::proofs::MixedLaws::last_mixed, crate::proofs::MixedLaws::mixed_on))]
     fn turn(self) -> Turn<Mixer>
         ensures pays { Pays (λ task done. done ≡ owed task) self result }
