@@ -19,6 +19,8 @@ impl<'p> PoolTask for Task<'p> {
 
     ghost owes = { Owes };
 
+    ghost turns = { TaskTurns };
+
     /// Makes one turn. Beside what the task owes it tells what its own crate tells of a turn: that the task goes
     /// on as one of its kind, and that something moved, or why nothing did. No turn lowers the number of what the
     /// task has done, of an agent on its control channel and in all its sessions; and a turn that doesn't raise

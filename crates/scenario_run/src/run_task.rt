@@ -132,6 +132,8 @@ impl<'p, 's> PoolTask for RunTask<'p, 's> {
 
     ghost owes = { Owes };
 
+    ghost turns = { λ _ _. Unit {0} };
+
     fn turn(self) -> Turn<Self> {
         let RunTask {
             alloc,

@@ -10,8 +10,8 @@ use Rattle.crossbeam_queue.specs.Fifo.{Pushes, Pops, Forks, Merges, Learns}
 use Rattle.crossbeam_queue.proofs.Lists.{at_set, at_snoc}
 use Rattle.task_pool.specs.declared.queue.Holding.{Holding}
 use Rattle.task_pool.specs.declared.waiting.Waiting.{Waiting}
-use Rattle.task_pool.specs.Holding.{holding, all_parts}
-use Rattle.task_pool.specs.Rule.{below, kept_weight, IsEnqueued, Fits, Owing, Holds, Takes, Enqueues, Gives, Counts}
+use Rattle.task_pool.specs.Holding.{all_parts, joined, unused}
+use Rattle.task_pool.specs.Rule.{below, kept_weight, IsEnqueued, Fits, Owing, Holds, Takes, Enqueues, Gives, Counts, IsWithin}
 use Rattle.task_pool.proofs.Totals.{total_append, total_set, term_le, two_terms_le, total_alone, total_ones, below_ones}
 
 enqueued_last : {T : Type 0} (enqueued : List T) (t : T) (i : ℕ) → i ≡ length enqueued → slice_get (enqueued ++ t ∷ []) i ≡ Some t
@@ -26,11 +26,11 @@ module _ {T D : Type 0} (owes : T → D → Type 0) where
   hands_set enqueued views port w mine others j u e =
       ⊎_elim (λ (x : (j ≡ port) × (w ≡ u)). subst (Fits enqueued) x.1 mine) (λ (x : (j ≢ port) × (get_elem? views j ≡ some u)). others j u x.0 x.1) (at_set views port j w u e)
 
-  begins_at : (pass : ℕ) (v : Holding T) → get_elem? (holding all_parts [] [] ∷ []) pass ≡ some v → Fits [] v
+  begins_at : (pass : ℕ) (v : Holding T) → get_elem? (unused all_parts [] ∷ []) pass ≡ some v → Fits [] v
   begins_at zero v at = subst (Fits []) (some-injective _ v at) (record { knows = λ _. refl; idle = λ none. absurd (omega arith); placed = tt })
   begins_at (suc pass) v at = absurd (some-ne-none v (sym at))
 
-  pub begins : Holds owes [] (holding all_parts [] [] ∷ [])
+  pub begins : Holds owes [] (unused all_parts [] ∷ [])
   begins = record { enqueued = []; parts = refl; once = λ weight. refl; waiting = tt; hands = begins_at }
 
   -- a pass with a part keeps fewer places than were enqueued, while one waits
@@ -47,7 +47,7 @@ module _ {T D : Type 0} (owes : T → D → Type 0) where
   takes port v some_part x items views h at =
       let mine = h.hands port v at in
       let first = h.waiting.0 in
-      let w : Holding T = holding v.parts v.enqueued (v.kept ++ (x.place, first.first) ∷ []) in (
+      let w : Holding T = record v { kept = v.kept ++ (x.place, first.first) ∷ []; taken = v.taken ++ (x.place, x.task) ∷ [] } in (
         w,
         record {
           enqueued = h.enqueued;
@@ -72,7 +72,7 @@ module _ {T D : Type 0} (owes : T → D → Type 0) where
       let less : length v.kept - 1 ≡ length rest = omega arith in
       let front : take (length v.kept - 1) v.kept ≡ rest = ap (λ k. take k v.kept) less ∙ (ap (λ l. take (length rest) l) is ∙ take-append_seam rest ((x.place, first) ∷ [])) in
       let placed : AllByRecursion (IsEnqueued h.enqueued) (rest ++ (x.place, first) ∷ []) = subst (AllByRecursion (IsEnqueued h.enqueued)) is mine.placed in
-      let w : Holding T = holding v.parts v.enqueued (take (length v.kept - 1) v.kept) in (
+      let w : Holding T = record v { kept = take (length v.kept - 1) v.kept; given = v.given ++ (x.place, x.task) ∷ [] } in (
         w,
         record {
           enqueued = h.enqueued;
@@ -103,7 +103,7 @@ module _ {T D : Type 0} (owes : T → D → Type 0) where
       let same : v.enqueued ≡ h.enqueued = mine.knows (omega arith) in
       let longer : List T = v.enqueued ++ x.task ∷ [] in
       let stays : (i : ℕ) (t : T) → slice_get h.enqueued i ≡ Some t → slice_get longer i ≡ Some t = λ i t there. get_front v.enqueued (x.task ∷ []) i t (ap (λ l. slice_get l i) same ∙ there) in
-      let w : Holding T = holding v.parts longer v.kept in (
+      let w : Holding T = record v { enqueued = longer } in (
         w,
         record {
           enqueued = longer;
@@ -132,11 +132,11 @@ module _ {T D : Type 0} (owes : T → D → Type 0) where
         refl,
       )
 
-  pub forks : (port : ℕ) (v : Holding T) → 1 < v.parts → Forks (Holds owes) port v (holding (v.parts - 1) v.enqueued v.kept) (holding 1 v.enqueued [])
+  pub forks : (port : ℕ) (v : Holding T) → 1 < v.parts → Forks (Holds owes) port v (record v { parts = v.parts - 1 }) (unused 1 v.enqueued)
   forks port v parts items views h at =
       let mine = h.hands port v at in
-      let left : Holding T = holding (v.parts - 1) v.enqueued v.kept in
-      let right : Holding T = holding 1 v.enqueued [] in
+      let left : Holding T = record v { parts = v.parts - 1 } in
+      let right : Holding T = unused 1 v.enqueued in
       let others = hands_set h.enqueued views port left (record { knows = λ _. mine.knows (omega arith); idle = λ none. absurd (omega arith); placed = mine.placed }) (λ j u other there. h.hands j u there) in
       record {
         enqueued = h.enqueued;
@@ -152,11 +152,11 @@ module _ {T D : Type 0} (owes : T → D → Type 0) where
       }
 
   pub merges : (port : ℕ) (v : Holding T) (other : ℕ) (u : Holding T) → 0 < v.parts → 0 < u.parts
-      → Merges (Holds owes) port v other u (holding (v.parts + u.parts) v.enqueued (v.kept ++ u.kept)) (holding 0 [] [])
+      → Merges (Holds owes) port v other u (joined v u) (unused 0 [])
   merges port v other u some_part part items views h at apart at' =
       let mine = h.hands port v at in
-      let both : Holding T = holding (v.parts + u.parts) v.enqueued (v.kept ++ u.kept) in
-      let spent : Holding T = holding 0 [] [] in
+      let both : Holding T = joined v u in
+      let spent : Holding T = unused 0 [] in
       let was : get_elem? views other ≡ some u = ⊎_elim (λ (x : (other ≡ port) × (both ≡ u)). absurd (apart x.0)) (λ (x : (other ≢ port) × (get_elem? views other ≡ some u)). x.1) (at_set views port other both u at') in
       let theirs = h.hands other u was in
       record {
@@ -184,13 +184,24 @@ module _ {T D : Type 0} (owes : T → D → Type 0) where
       let size : below weight (length v.enqueued) ≡ below weight (length h.enqueued) = ap (below weight) same in
       omega arith
 
--- a pass with all parts that keeps nothing, and enqueued fewer tasks than the queue has room for, never finds it full
-pub never_full : {T : Type 0} (v : Holding T) (items : List (Waiting T)) (room : ℕ) → v.parts ≡ all_parts → v.kept ≡ [] → length items ≡ room → Counts v items → length v.enqueued < room → ⊥
-never_full v items room all none full counted short =
-    let p = counted all (λ _. 1) in
-    let k : kept_weight (λ _. 1) v.kept ≡ 0 = ap (kept_weight (λ _. 1)) none in
-    omega (arith, total_ones items, below_ones (length v.enqueued))
+  pub within : (port : ℕ) (v : Holding T) → Learns (Holds owes) port v (IsWithin v)
+  within port v items views h at some_part =
+      let same : length v.enqueued ≡ length h.enqueued = ap length ((h.hands port v at).knows some_part) in
+      let sum = h.once (λ _. 1) in
+      omega (arith, total_ones items, below_ones (length h.enqueued))
 
--- a pass that takes or gives keeps its parts
-pub still_part : {T : Type 0} (parts : ℕ) (w : Holding T) (enqueued : List T) (kept : List (ℕ × T)) → w ≡ holding parts enqueued kept → 0 < parts → 0 < w.parts
-still_part parts w enqueued kept is part = let e : w.parts ≡ parts = ap (λ (y : Holding _). y.parts) is in omega arith
+-- a pass with a part, which knows fewer tasks than the queue has room for, never finds it full
+pub never_full : {T : Type 0} (v : Holding T) (items : List (Waiting T)) (room : ℕ) → 0 < v.parts → length items ≡ room → IsWithin v items → length v.enqueued < room → ⊥
+never_full v items room some_part full known short = let few = known some_part in omega arith
+
+front_of : {X : Type 0} (xs : List X) (e : X) → take (length (xs ++ e ∷ []) - 1) (xs ++ e ∷ []) ≡ xs
+front_of xs e =
+    let count : length (xs ++ e ∷ []) - 1 ≡ length xs = (let n = length-append xs (e ∷ []) in omega arith) in
+    ap (λ k. take k (xs ++ e ∷ [])) count ∙ take-append_seam xs (e ∷ [])
+
+-- a place is kept no longer once its task, which was taken last, is given back
+pub came_round : {T : Type 0} (v u w : Holding T) (place : ℕ) (first before now : T) → u ≡ record v { kept = v.kept ++ (place, first) ∷ []; taken = v.taken ++ (place, before) ∷ [] }
+    → Gives u (record { place = place; task = now }) w → w ≡ record v { taken = v.taken ++ (place, before) ∷ []; given = v.given ++ (place, now) ∷ [] }
+came_round {T} v u w place first before now took gave =
+    let back : Holding T → Holding T = λ h. record h { kept = take (length h.kept - 1) h.kept; given = h.given ++ (place, now) ∷ [] } in
+    gave ∙ ap back took ∙ ap (λ k. let h : Holding T = record v { kept = k; taken = v.taken ++ (place, before) ∷ []; given = v.given ++ (place, now) ∷ [] } in h) (front_of v.kept (place, first))

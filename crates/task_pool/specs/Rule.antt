@@ -1,11 +1,11 @@
 -- The rule of the queue of waiting tasks: each place either waits or is kept by one pass, once.
-use Rattle.std.specs.Prelude.{◌≡◌, ℕ, zero, suc, ◌+◌, ◌-◌, ◌<◌, List, [], ◌∷◌, ◌++◌, length, take, slice_get, Some}
+use Rattle.std.specs.Prelude.{◌≡◌, ℕ, zero, suc, ◌+◌, ◌-◌, ◌<◌, ◌≤◌, List, [], ◌∷◌, ◌++◌, length, take, slice_get, Some}
 use Rattle.std.specs.List.{AllByRecursion}
 use mathlib.Core.Option.{some}
 use lib.ListN.{get_elem?}
 use Rattle.task_pool.specs.declared.queue.Holding.{Holding}
 use Rattle.task_pool.specs.declared.waiting.Waiting.{Waiting}
-use Rattle.task_pool.specs.Holding.{holding, all_parts}
+use Rattle.task_pool.specs.Holding.{all_parts}
 
 -- f of each element, added up
 abbrev pub total : {X : Type 0} → (X → ℕ) → List X → ℕ
@@ -53,19 +53,23 @@ module _ {T D : Type 0} (owes : T → D → Type 0) where
   -- what a pop tells: the place is kept, with the task first enqueued there, and there was room for it
   pub record Takes (v : Holding T) (x : Waiting T) (w : Holding T) : Type 0 where
     pub first : T
-    pub keeps : w ≡ holding v.parts v.enqueued (v.kept ++ (x.place, first) ∷ [])
+    pub keeps : w ≡ record v { kept = v.kept ++ (x.place, first) ∷ []; taken = v.taken ++ (x.place, x.task) ∷ [] }
     pub at : slice_get v.enqueued x.place ≡ Some first
     pub pays : (done : D) → owes x.task done → owes first done
     pub room : length v.kept < length v.enqueued
 
 -- what a push of one more task tells: it was enqueued at the next place
 abbrev pub Enqueues : {T : Type 0} → Holding T → Waiting T → Holding T → Type 0
-Enqueues v x w = w ≡ holding v.parts (v.enqueued ++ x.task ∷ []) v.kept
+Enqueues v x w = w ≡ record v { enqueued = v.enqueued ++ x.task ∷ [] }
 
 -- what a push of a task that was taken last tells: its place is kept no longer
 abbrev pub Gives : {T : Type 0} → Holding T → Waiting T → Holding T → Type 0
-Gives v x w = w ≡ holding v.parts v.enqueued (take (length v.kept - 1) v.kept)
+Gives v x w = w ≡ record v { kept = take (length v.kept - 1) v.kept; given = v.given ++ (x.place, x.task) ∷ [] }
 
 -- what the pass with all parts learns: each place is kept by it or waits, once
 abbrev pub Counts : {T : Type 0} → Holding T → List (Waiting T) → Type 0
 Counts v items = v.parts ≡ all_parts → (weight : ℕ → ℕ) → kept_weight weight v.kept + waiting_weight weight items ≡ below weight (length v.enqueued)
+
+-- what a pass with a part learns: no more tasks wait than were enqueued
+abbrev pub IsWithin : {T : Type 0} → Holding T → List (Waiting T) → Type 0
+IsWithin v items = 0 < v.parts → length items ≤ length v.enqueued

@@ -1,7 +1,7 @@
 //! The calling thread's account of a run: its pass, and the answers so far.
 ghost use Rattle.std.specs.Prelude.{◌≡◌, ◌≤◌, ◌<◌, ◌+◌, ◌-◌, [], ◌++◌, length, vec_len, vec_capacity, IfOk, OnOk, All, Some, None, replicate, slice_set};
 ghost use Rattle.std.specs.List.{AllByRecursion, AllZip};
-ghost use Rattle.crossbeam_queue.specs.Passes.{view, IsPassOf};
+ghost use Rattle.crossbeam_queue.specs.Passes.{view, IsPassOf, ruled_capacity};
 ghost use Rattle.task_pool.specs.Holding.{all_parts};
 ghost use Rattle.task_pool.specs.Results.{Keeps, Settled, IsWhole};
 
@@ -96,6 +96,7 @@ impl<T: PoolTask> Account<T> {
         workers: Vec<Worker<T>>,
     ) -> Result<Vec<Worker<T>>, AllocError>
         requires hired { All (λ w. IsPassOf queue.now w.pass × Keeps T.owes (view self.now.pass).enqueued w.finished.items (view w.pass) × (length (view self.now.pass).enqueued ≤ vec_capacity w.finished)) workers.items }
+        requires queue { length (view self.now.pass).enqueued < ruled_capacity queue.now }
         ensures few { IfOk result (λ back. vec_len back ≡ vec_len workers) }
         ensures back { IfOk result (λ back. AllByRecursion (λ w. IsPassOf queue.now w.pass × Keeps T.owes (view self.now.pass).enqueued w.finished.items (view w.pass)) back.items) }
     {
@@ -113,11 +114,12 @@ impl<T: PoolTask> Account<T> {
         workers: Vec<Worker<T>>,
     ) -> Result<Vec<Worker<T>>, AllocError>
         requires hired { All (λ w. IsPassOf queue.now w.pass × Keeps T.owes (view self.now.pass).enqueued w.finished.items (view w.pass) × (length (view self.now.pass).enqueued ≤ vec_capacity w.finished)) workers.items }
+        requires queue { length (view self.now.pass).enqueued < ruled_capacity queue.now }
         ensures few { IfOk result (λ back. vec_len back ≡ vec_len workers) }
         ensures back { IfOk result (λ back. AllByRecursion (λ w. IsPassOf queue.now w.pass × Keeps T.owes (view self.now.pass).enqueued w.finished.items (view w.pass)) back.items) }
     {
         let turns = |worker: Worker<T>| -> Worker<T>
-            requires { IsPassOf queue.now worker.pass × Keeps T.owes (view worker.pass).enqueued worker.finished.items (view worker.pass) × (length (view worker.pass).enqueued ≤ vec_capacity worker.finished) }
+            requires { IsPassOf queue.now worker.pass × Keeps T.owes (view worker.pass).enqueued worker.finished.items (view worker.pass) × (length (view worker.pass).enqueued ≤ vec_capacity worker.finished) × (length (view worker.pass).enqueued < ruled_capacity queue.now) }
             ensures { IsPassOf queue.entry.now result.pass × Keeps T.owes (view worker.pass).enqueued result.finished.items (view result.pass) }
         { work(rt, queue, gate, progress, worker) };
         thread::map_vec(rt, workers, &turns)
@@ -163,6 +165,7 @@ impl<T: PoolTask> Account<T> {
         requires pass { IsPassOf queue.now self.old.pass }
         requires all { (view self.old.pass).parts ≡ all_parts }
         requires settled { Settled T.owes (view self.old.pass).enqueued (view self.old.pass).kept self.old.answers.items }
+        requires queue { length (view self.old.pass).enqueued < ruled_capacity queue.now }
         ensures enqueued { (view self.new.pass).enqueued ≡ (view self.old.pass).enqueued }
         ensures whole { IsWhole (view self.old.pass).enqueued (view self.new.pass).kept }
         ensures settled { Settled T.owes (view self.old.pass).enqueued (view self.new.pass).kept self.new.answers.items }

@@ -1,7 +1,7 @@
 //! Putting the tasks into the queue.
 ghost use Rattle.std.specs.Prelude.{◌≡◌, ◌<◌, ◌^◌, ◌++◌, [], length, vec_len, IfOk};
 ghost use Rattle.crossbeam_queue.specs.Passes.{view, IsPassOf, ruled_capacity};
-ghost use Rattle.task_pool.specs.Holding.{holding, all_parts};
+ghost use Rattle.task_pool.specs.Holding.{unused, all_parts};
 
 use crate::pool::MOST_WORKERS;
 use crate::queue::{Enqueuing, TaskPass, TaskQueue};
@@ -18,7 +18,8 @@ pub(crate) fn enqueue_all<T: PoolTask, R: Wait>(
 ) -> Result<(TaskQueue<T>, TaskPass<T>), AllocError>
     requires some { 0 < vec_len tasks }
     requires few { vec_len tasks < 2 ^ 32 }
-    ensures { IfOk result (λ q. IsPassOf q.0 q.1 × (view q.1 ≡ holding all_parts tasks.items [])) }
+    ensures pass { IfOk result (λ q. IsPassOf q.0 q.1 × (view q.1 ≡ unused all_parts tasks.items)) }
+    ensures room { IfOk result (λ q. length (view q.1).enqueued < ruled_capacity q.0) }
 {
     // A worker that was stopped while it took a task holds its slot. In a queue of just this size the others would
     // need that slot at their next push, and wait for it.

@@ -18,9 +18,8 @@ pub const MOST_WORKERS: u32 = 16;
 /// order of the tasks, each as its task owed.
 ///
 /// A worker takes one task at a time from a queue, calls `gate.enter` with the task's place, makes
-/// one turn and gives the task back. A task that the queue doesn't take back stays with its worker,
-/// which goes on with it. After the workers have ended, the calling thread turns the tasks that are
-/// left in rounds, one turn each.
+/// one turn and gives the task back. After the workers have ended, the calling thread turns the tasks
+/// that are left in rounds, one turn each.
 ///
 /// All memory for answers is taken before the workers start. Nothing is promised of time, of
 /// fairness, or that two workers ever run at once.

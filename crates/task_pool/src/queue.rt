@@ -3,8 +3,8 @@
 //! A pass holds parts of the right to know every other pass. The calling thread begins with all
 //! parts, enqueues the tasks, and cuts off a part for each worker.
 ghost use Rattle.std.specs.Prelude.{◌≡◌, ◌+◌, ◌-◌, [], ◌++◌};
-ghost use Rattle.task_pool.specs.Rule.{Holds, Takes, Enqueues, Gives, Counts};
-ghost use Rattle.task_pool.specs.Holding.{holding, all_parts};
+ghost use Rattle.task_pool.specs.Rule.{Holds, Takes, Enqueues, Gives, Counts, IsWithin};
+ghost use Rattle.task_pool.specs.Holding.{all_parts, joined, unused};
 
 use crate::task::PoolTask;
 use crate::waiting::Waiting;
@@ -22,6 +22,10 @@ pub(crate) struct Holding<T> {
     /// The places that it took and hasn't given back, with the tasks first enqueued there: those that
     /// are done, and the one under way.
     pub kept: LinkedList<(u32, T)>,
+    /// All tasks that it took so far, each as it was then, with their places.
+    pub taken: LinkedList<(u32, T)>,
+    /// All tasks that it gave back so far, each as it was then, with their places.
+    pub given: LinkedList<(u32, T)>,
 }
 
 /// The rule of the queue: each place either waits or is kept by one pass, once.
@@ -30,7 +34,7 @@ pub(crate) struct Law<T>(PhantomData<T>);
 impl<T: PoolTask> Protocol<Waiting<T>, Holding<T>> for Law<T> {
     ghost holds = { Holds T.owes };
 
-    ghost first = { holding all_parts [] [] };
+    ghost first = { unused all_parts [] };
 }
 
 /// A task is enqueued at the next place.
@@ -41,7 +45,7 @@ impl<T: PoolTask> Outcome<Waiting<T>, Holding<T>> for Enqueuing<T> {
 }
 
 impl<T: PoolTask> Lesson<Waiting<T>, Holding<T>> for Enqueuing<T> {
-    ghost fact = { Counts };
+    ghost fact = { IsWithin };
 }
 
 /// A task is taken for a turn.
@@ -63,22 +67,22 @@ impl<T: PoolTask> Outcome<Waiting<T>, Holding<T>> for Giving<T> {
 }
 
 impl<T: PoolTask> Lesson<Waiting<T>, Holding<T>> for Giving<T> {
-    ghost fact = { Counts };
+    ghost fact = { IsWithin };
 }
 
 /// A part is cut off for a worker, or a worker's pass comes back.
 pub(crate) struct Parting<T>(PhantomData<T>);
 
 impl<T: PoolTask> Split<Holding<T>> for Parting<T> {
-    ghost left = { λ v. holding (v.parts - 1) v.enqueued v.kept };
+    ghost left = { λ v. record v { parts = v.parts - 1 } };
 
-    ghost right = { λ v. holding 1 v.enqueued [] };
+    ghost right = { λ v. unused 1 v.enqueued };
 }
 
 impl<T: PoolTask> Join<Holding<T>> for Parting<T> {
-    ghost both = { λ v w. holding (v.parts + w.parts) v.enqueued (v.kept ++ w.kept) };
+    ghost both = { joined };
 
-    ghost spent = { holding 0 [] [] };
+    ghost spent = { unused 0 [] };
 }
 
 /// The queue of the tasks that wait.

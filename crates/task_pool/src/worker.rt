@@ -1,6 +1,6 @@
 //! The workers: each makes turns until every task is done.
 ghost use Rattle.std.specs.Prelude.{◌≡◌, ◌≤◌, ◌<◌, [], length, vec_len, vec_capacity, IfOk, All};
-ghost use Rattle.crossbeam_queue.specs.Passes.{view, IsPassOf};
+ghost use Rattle.crossbeam_queue.specs.Passes.{view, IsPassOf, ruled_capacity};
 ghost use Rattle.task_pool.specs.Results.{Keeps};
 
 use crate::progress::Progress;
@@ -37,6 +37,7 @@ pub(crate) fn work<T: PoolTask, G: Gate, R: Wait>(
     requires pass { IsPassOf queue.now worker.pass }
     requires keeps { Keeps T.owes (view worker.pass).enqueued worker.finished.items (view worker.pass) }
     requires room { length (view worker.pass).enqueued ≤ vec_capacity worker.finished }
+    requires queue { length (view worker.pass).enqueued < ruled_capacity queue.now }
     ensures pass { IsPassOf queue.now result.pass }
     ensures keeps { Keeps T.owes (view worker.pass).enqueued result.finished.items (view result.pass) }
 {

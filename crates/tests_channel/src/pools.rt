@@ -23,6 +23,8 @@ impl PoolTask for Steps {
 
     ghost owes = { λ t done. done ≡ t.made + t.left };
 
+    ghost turns = { λ _ _. Unit {0} };
+
     fn turn(self) -> Turn<Steps> {
         if self.left == 1 {
             return Turn::Done(self.made + 1);
@@ -217,6 +219,8 @@ impl PoolTask for Awaiting<'_> {
 
     ghost owes = { λ _ _. Unit {0} };
 
+    ghost turns = { λ _ _. Unit {0} };
+
     fn turn(mut self) -> Turn<Self> {
         let turned = self.turned.fetch_or(self.own, Ordering::SeqCst) | self.own;
         if turned == self.set {
@@ -312,6 +316,8 @@ impl PoolTask for Held<'_> {
     type Done = u32;
 
     ghost owes = { λ _ _. Unit {0} };
+
+    ghost turns = { λ _ _. Unit {0} };
 
     fn turn(mut self) -> Turn<Self> {
         if self.holds {

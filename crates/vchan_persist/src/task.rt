@@ -41,6 +41,8 @@ impl<'p> PoolTask for EpochTask<'p> {
 
     ghost owes = { epoch_owes };
 
+    ghost turns = { λ _ _. Unit {0} };
+
     fn turn(self) -> Turn<Self> {
         match self {
             EpochTask::Calls(calling) => calling.turn(),

@@ -45,6 +45,8 @@ impl<'p> PoolTask for HopTask<'p> {
 
     ghost owes = { hop_owes };
 
+    ghost turns = { λ _ _. Unit {0} };
+
     fn turn(self) -> Turn<Self> {
         match self {
             HopTask::Writes(writer) => writer.turn(),

@@ -8,7 +8,7 @@ push_reserved-requires g c =
     let known = c.loop.invariant in
     let short =
     keeps_room g.T.PoolTask.owes (view c.args.worker.pass).enqueued c.loop.finished.items c.in-Over.result (view c.loop.pass) (view c.try_turn.new.pass) known.keeps
-    c.in-Over.ensures.tried in
+    c.in-Over.ensures.tried.0 in
     let ok = c.loop.finished.ok in
     omega arith
 
@@ -21,6 +21,6 @@ loop-preserved g c =
       pass = c.in-Over.ensures.pass;
       keeps = rw c.push_reserved.ensures.items
           (keeps_more g.T.PoolTask.owes (view c.args.worker.pass).enqueued c.loop.finished.items c.in-Over.result (view c.loop.pass) (view c.try_turn.new.pass) known.keeps
-          c.in-Over.ensures.tried);
+          c.in-Over.ensures.tried.0);
       room = let same = c.push_reserved.ensures.capacity in omega arith;
     }

@@ -9,7 +9,7 @@ loop-preserved g c =
     let owes = g.T.PoolTask.owes in
     let enqueued = (view c.args.self.now.pass).enqueued in
     let known = c.loop.invariant in
-    let ends = c.in-Over.ensures.tried in
+    let ends = c.in-Over.ensures.tried.0 in
     let paid = subst (λ l. IsPaid owes l (c.in-Over.finished.place, ends.first) c.in-Over.finished) known.enqueued ends.paid in
     record {
       can_next = tt;

@@ -1,7 +1,7 @@
 use Rattle.std.proofs.Common.{◌≡◌, ◌+◌, ◌-◌, ◌≤◌, length, vec_len, vec_capacity}
 use Rattle.std.specs.List.{AllByRecursion}
 use Rattle.crossbeam_queue.specs.Passes.{view, IsPassOf}
-use Rattle.task_pool.specs.Holding.{holding, all_parts}
+use Rattle.task_pool.specs.Holding.{all_parts}
 use Rattle.task_pool.specs.Results.{Keeps}
 use Rattle.task_pool.proofs.account.Account.hire.Given as goal
 
@@ -10,7 +10,7 @@ invariant-loop-worker g l =
     let before = view l.fn.self.pass in
     record {
       pass : IsPassOf l.queue l.self.pass;
-      seen : view l.self.pass ≡ holding (all_parts - l._worker) before.enqueued before.kept;
+      seen : view l.self.pass ≡ record before { parts = all_parts - l._worker };
       count : vec_len l.hired ≡ l._worker;
       room : vec_len l.hired + (l.workers - l._worker) ≤ vec_capacity l.hired;
       answers : l.self.answers ≡ l.fn.self.answers;

@@ -1,7 +1,7 @@
-use Rattle.std.proofs.Common.{◌≡◌, ◌+◌, ◌++◌}
+use Rattle.std.proofs.Common.{◌≡◌}
 use Rattle.std.specs.Vec.Iter.{into_iter_items}
 use Rattle.crossbeam_queue.specs.Passes.{view, IsPassOf}
-use Rattle.task_pool.specs.Holding.{holding}
+use Rattle.task_pool.specs.Holding.{joined}
 use Rattle.task_pool.proofs.Settling.{Settling}
 use Rattle.task_pool.proofs.account.Account.take_back.Given as goal
 
@@ -14,6 +14,6 @@ invariant-loop-result g l =
       can_next : (goal.iterator-loop-result g).can_next l.result-iterator;
       is_finite : (goal.iterator-loop-result g).is_finite l.result-iterator;
       pass : IsPassOf l.queue l.self.pass;
-      view : view l.self.pass ≡ holding (before.parts + theirs.parts) before.enqueued (before.kept ++ theirs.kept);
+      view : view l.self.pass ≡ joined before theirs;
       settling : Settling g.T.PoolTask.owes before.enqueued before.kept theirs.kept (into_iter_items l.result-iterator) l.self.answers.items;
     }
