@@ -109,6 +109,9 @@ by_none P Q waiting shut shut' old found left now one two three is not_yet f sam
   sends = sends_as P Q waiting shut shut' left now f same sends;
 }
 
+same_through : (a b c d : SeatedEnd) → IsSameEnd a b → IsSameEnd b c → IsSameEnd c d → IsSameEnd a d
+same_through a b c d one two three = same_end_then a b d one (same_end_then b c d two three)
+
 caller_went : (went : Bool) (b c : CallerAt) → CallerWrites went b c → length (view b.end).sent ≤ length (view c.end).sent
 caller_went true b c more = omega (arith, more)
 caller_went false b c rests = as_long (view b.end).sent (view c.end).sent rests.0
@@ -122,9 +125,9 @@ pub caller_turns : (came went : Bool) (old a b c : CallerAt) (pace : Pace) → I
     → CallerWrites went b c → (view c.end).got ≡ (view b.end).got → c.caller.replies.outcome ≡ b.caller.replies.outcome
     → IsMade (not (came || went)) pace → CallerTurns (turned_by (came || went)) old (record { caller = c.caller; end = c.end; pace = pace })
 caller_turns true went old a b c pace same same' same'' is caller was none reads paced sent writes got outcome made =
-    (by_read (view old.end) (view a.end) (view b.end) (view c.end) b.caller.replies.outcome c.caller.replies.outcome is reads.0 reads.1 sent got (caller_went went b c writes) (subst IsSome (sym outcome)), made)
+    (by_read (view old.end) (view a.end) (view b.end) (view c.end) b.caller.replies.outcome c.caller.replies.outcome is reads.0 reads.1 sent got (caller_went went b c writes) (subst IsSome (sym outcome)), made, same_through old.end a.end b.end c.end same same' same'')
 caller_turns false true old a b c pace same same' same'' is caller was none reads paced sent more got outcome made =
-    (by_write (view old.end) (view a.end) (view b.end) (view c.end) c.caller.replies.outcome is reads.1 sent got more, made)
+    (by_write (view old.end) (view a.end) (view b.end) (view c.end) c.caller.replies.outcome is reads.1 sent got more, made, same_through old.end a.end b.end c.end same same' same'')
 caller_turns false false old a b c pace same same' same'' is caller was none reads paced sent rests got outcome made =
     let kept = reads.0 ∙ caller in (
       (got ∙ (reads.1 ∙ ap (λ v. v.got) is), rests.0 ∙ (sent ∙ ap (λ v. v.sent) is), outcome ∙ (ap (λ k. k.replies.outcome) kept ∙ none)),
@@ -144,9 +147,9 @@ pub serving_turns : (came went : Bool) (old a b c : ServingAt) (pace : Pace) →
     → ServingWrites went b c → (view c.end).got ≡ (view b.end).got → (IsSome b.serving.answering.outcome → IsSome c.serving.answering.outcome)
     → IsMade (not (came || went)) pace → ServingTurns (turned_by (came || went)) old (record { serving = c.serving; end = c.end; pace = pace })
 serving_turns true went old a b c pace same same' same'' is serving was none reads paced sent writes got outcome made =
-    (by_read (view old.end) (view a.end) (view b.end) (view c.end) b.serving.answering.outcome c.serving.answering.outcome is reads.0 reads.1 sent got (serving_went went b c writes) outcome, made)
+    (by_read (view old.end) (view a.end) (view b.end) (view c.end) b.serving.answering.outcome c.serving.answering.outcome is reads.0 reads.1 sent got (serving_went went b c writes) outcome, made, same_through old.end a.end b.end c.end same same' same'')
 serving_turns false true old a b c pace same same' same'' is serving was none reads paced sent more got outcome made =
-    (by_write (view old.end) (view a.end) (view b.end) (view c.end) c.serving.answering.outcome is reads.1 sent got more, made)
+    (by_write (view old.end) (view a.end) (view b.end) (view c.end) c.serving.answering.outcome is reads.1 sent got more, made, same_through old.end a.end b.end c.end same same' same'')
 serving_turns false false old a b c pace same same' same'' is serving was none reads paced sent rests got outcome made =
     let kept = reads.0 ∙ serving in
     let got_is = reads.1 ∙ ap (λ v. v.got) is in

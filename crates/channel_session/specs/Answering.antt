@@ -9,6 +9,7 @@ use Rattle.qrexec_data.specs.declared.outcome.Outcome.{Outcome}
 use Rattle.qrexec_data.specs.declared.outcome.Outcome.TheVariants.{Done, Fault, Closed, Gone}
 use Rattle.qrexec_data.specs.ServingSide.{ServingState, ServingStandsFor, IsStill}
 use Rattle.vchan_rule.specs.Seated.{SeatedEnd, view, IsOpen}
+use Rattle.vchan_rule.specs.Ends.{IsSameEnd}
 use Rattle.end_view.specs.EndView.{EndView}
 use Rattle.task_duties.specs.Agent.Sessions.{chunk, IsClosed, IsGone}
 use Rattle.channel_session.specs.declared.pause.Turned.{Turned}
@@ -68,9 +69,9 @@ pub record IsAtWork (serving : ServingState Builtin) (end : SeatedEnd) : Type 0 
 abbrev pub HasNothing : ServingAt → Type 0
 HasNothing s = (owed : List ℕ → Triple) → IsAnswering owed s.serving s.end → IsStill s.serving.answering
 
--- a turn that moved something: bytes, or the call is over; one that was quiet; and one that was passed over
+-- a turn that moved something: bytes, or the call is over; one that was quiet; and one that was passed over: each on the same end of the same page
 abbrev pub ServingTurns : Turned → ServingAt → ServingAt → Type 0
-ServingTurns Moved old new = HasMoved (view old.end) (view new.end) new.serving.answering.outcome × IsMade false new.pace
+ServingTurns Moved old new = HasMoved (view old.end) (view new.end) new.serving.answering.outcome × IsMade false new.pace × IsSameEnd old.end new.end
 ServingTurns Quiet old new = HasRested (view old.end) (view new.end) new.serving.answering.outcome × IsMade true new.pace
     × IsQuiet (HasNothing old) new.serving.answering.waiting old.pace.peer_shut old.end new.end
 ServingTurns Passed old new = (new.serving ≡ old.serving) × IsPassed old.pace new.pace old.end new.end

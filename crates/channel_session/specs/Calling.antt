@@ -2,6 +2,7 @@
 use Rattle.std.specs.Prelude.{◌≡◌, ◌⊎◌, ◌<◌, ◌≤◌, Bool, true, false, length, Option, Some, None, IsSome}
 use Rattle.vchan_protocol.specs.declared.call.EndState.TheVariants.{Shut}
 use Rattle.vchan_rule.specs.Seated.{SeatedEnd, view, IsOpen}
+use Rattle.vchan_rule.specs.Ends.{IsSameEnd}
 use Rattle.end_view.specs.EndView.{EndView}
 use Rattle.qrexec_data.specs.declared.outcome.Outcome.{Outcome}
 use Rattle.qrexec_data.specs.CallerSide.{CallerState, CallerStandsFor, IsStill}
@@ -40,9 +41,9 @@ IsRetired before now = now ≡ record before { state = Shut; retired = true }
 
 -- ---- a turn
 
--- a turn that moved something: bytes, or the call is over; one that was quiet; and one that was passed over
+-- a turn that moved something: bytes, or the call is over; one that was quiet; and one that was passed over: each on the same end of the same page
 abbrev pub CallerTurns : Turned → CallerAt → CallerAt → Type 0
-CallerTurns Moved old new = HasMoved (view old.end) (view new.end) new.caller.replies.outcome × IsMade false new.pace
+CallerTurns Moved old new = HasMoved (view old.end) (view new.end) new.caller.replies.outcome × IsMade false new.pace × IsSameEnd old.end new.end
 CallerTurns Quiet old new = HasRested (view old.end) (view new.end) new.caller.replies.outcome × IsMade true new.pace
     × IsQuiet (IsStill old.caller) new.caller.requests.waiting old.pace.peer_shut old.end new.end
 CallerTurns Passed old new = (new.caller ≡ old.caller) × IsPassed old.pace new.pace old.end new.end

@@ -80,8 +80,9 @@ pub record IsQuiet (still : Type 0) (waiting : List ℕ) (was_shut : Bool) (befo
 
 -- ---- a turn that was passed over
 
--- no signal was pending
+-- no signal was pending; it is the same end of the same page
 pub record FindsNoEvent (before now : SeatedEnd) : Type 0 where
+  pub same : IsSameEnd before now
   pub view_is : view now ≡ view before
   pub trail : Trace (standing_of before.side) TakeEvent now.side.trail (Event false)
   pub cause : Cause (standing_of before.side) TakeEvent (loads_of (standing_of before.side) now.side.trail) (Event false)
