@@ -1,5 +1,5 @@
 -- What stands at the front, by the conditions of the grammar.
-use Rattle.std.proofs.Common.{◌≡◌, ◌≢◌, ℕ, ◌+◌, ◌<◌, ◌≤◌, ◌⊎◌, inl, inr, List, length, take, drop, Some, None, true, false, refl, sym, ◌∙◌, ap, arith, cond}
+use Rattle.std.proofs.Common.{◌≡◌, ◌≢◌, ℕ, ◌+◌, ◌<◌, ◌≤◌, ◌%◌, ◌^◌, ◌⊎◌, inl, inr, List, length, take, drop, Some, None, true, false, refl, sym, ◌∙◌, ap, arith, cond}
 use Rattle.std.proofs.lemmas.List.{length-take-le, length-drop}
 use Rattle.std.proofs.lemmas.Bool.{cases_lt, cases_Bool, lt-ltb, le-ltb, eq-eqb, ne_eqb}
 use Rattle.std.specs.Prelude.{nat_lt}
@@ -10,6 +10,10 @@ use Rattle.qrexec_frame.specs.Kinds.{kind_on, least_len, most_len, has_line}
 use Rattle.qrexec_frame.specs.Grammar.{number_at, last_byte, Fault, UnknownType, TooLong, BadLength, NoNul, HasHeader, IsInRange}
 use Rattle.qrexec_frame.specs.Fronts.{front, with_header, with_body, made}
 use Rattle.qrexec_frame.specs.Streams.{Front, Whole, Bad, Short}
+
+-- an offset of 64 bits stands for itself
+pub whole_offset : (at : ℕ) → at < 2 ^ 64 → at ≡ at % 2 ^ 64
+whole_offset at fits = omega arith
 
 -- the body needs no NUL at its end, or has one
 abbrev pub IsEnded : Kind → List ℕ → Type 0

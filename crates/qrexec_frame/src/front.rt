@@ -3,6 +3,7 @@ ghost use Rattle.std.specs.Prelude.{◌≡◌, ◌+◌, ◌≤◌, length, IfOk}
 ghost use Rattle.qrexec_frame.specs.Kinds.{least_len, most_len};
 ghost use Rattle.qrexec_frame.specs.Grammar.{number_at};
 ghost use Rattle.qrexec_frame.specs.Fronts.{made};
+ghost use Rattle.qrexec_frame.specs.Bodies.{IsHeaderKind};
 ghost use Rattle.qrexec_frame.specs.Messages.{HasNumbers};
 ghost use Rattle.qrexec_frame.specs.declared.message.Message.TheVariants.{Trigger3, Trigger};
 ghost use Rattle.qrexec_frame.specs.Texts.{field_text, line_text};
@@ -36,6 +37,7 @@ impl<'a> Body<'a> {
     /// # Errors
     ///
     /// The first fault that applies, if and only if one shows.
+    #[inline(always)]
     pub fn at_front(
         channel: Channel,
         at: u64,
@@ -48,15 +50,7 @@ impl<'a> Body<'a> {
         }
         let kind = u32_at(bytes, 0);
         let len = u32_at(bytes, 4);
-        let Some(row) = Kind::of(channel, kind) else {
-            return Err(FrameFault::UnknownType { at, kind });
-        };
-        if len > MOST_BODY {
-            return Err(FrameFault::TooLong { at, kind, len });
-        }
-        if len < row.least_len() || row.most_len() < len {
-            return Err(FrameFault::BadLength { at, kind, len });
-        }
+        let row = header_kind(channel, at, kind, len)?;
         let end = HEADER + len as usize;
         if bytes.len() < end {
             return Ok(None);
@@ -86,6 +80,30 @@ impl<'a> Body<'a> {
     {
         u32_at(self.bytes, 0)
     }
+}
+
+/// Returns the type that a header of this number and length is of.
+///
+/// It serves a caller that has a header without its body. A fault that it answers shows whatever
+/// body follows, and is the one that [`Body::at_front`] answers.
+///
+/// # Errors
+///
+/// `UnknownType`, `TooLong` or `BadLength`, the first that applies, if and only if one does.
+#[inline(always)]
+pub fn header_kind(channel: Channel, at: u64, kind: u32, len: u32) -> Result<Kind, FrameFault>
+    ensures { IsHeaderKind channel at kind len result }
+{
+    let Some(row) = Kind::of(channel, kind) else {
+        return Err(FrameFault::UnknownType { at, kind });
+    };
+    if len > MOST_BODY {
+        return Err(FrameFault::TooLong { at, kind, len });
+    }
+    if len < row.least_len() || row.most_len() < len {
+        return Err(FrameFault::BadLength { at, kind, len });
+    }
+    Ok(row)
 }
 
 /// Returns the message of a type with this body, whose length is in the type's range.
@@ -177,8 +195,8 @@ fn field(alloc: Global, body: &[u8], start: usize, len: usize) -> Result<Text, A
     Text::to_nul(alloc, &body[start..start + len - 1])
 }
 
-// The text of a fixed field, whose last byte counts as NUL.
-pub(crate) fn field_bytes(body: &[u8], start: usize, len: usize) -> &[u8]
+/// Borrows the text of a fixed field of a body, whose last byte counts as NUL.
+pub fn field_bytes(body: &[u8], start: usize, len: usize) -> &[u8]
     requires some { 1 ≤ len }
     requires within { start + len ≤ length body.now }
     ensures { result.now ≡ field_text start len body.now }
@@ -194,16 +212,16 @@ fn line(alloc: Global, body: &[u8], start: usize) -> Result<Text, AllocError>
     Text::to_nul(alloc, &body[start..])
 }
 
-// The text of a line or a service, which goes to the end of the body.
-pub(crate) fn line_bytes(body: &[u8], start: usize) -> &[u8]
+/// Borrows the text of a line or a service, which goes to the end of the body.
+pub fn line_bytes(body: &[u8], start: usize) -> &[u8]
     requires { start ≤ length body.now }
     ensures { result.now ≡ line_text start body.now }
 {
     before_nul(&body[start..])
 }
 
-// A number of four bytes, the lowest first.
-pub(crate) fn u32_at(bytes: &[u8], start: usize) -> u32
+/// Returns the number of four bytes, the lowest first.
+pub fn u32_at(bytes: &[u8], start: usize) -> u32
     requires { start + 4 ≤ length bytes.now }
     ensures { result ≡ number_at start bytes.now }
 {

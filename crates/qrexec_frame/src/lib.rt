@@ -24,7 +24,7 @@ pub use clean::{clean_name, clean_service, clean_target};
 pub use decoder::Decoder;
 pub use encoding::{encode, encode_data};
 pub use fault::{FrameFault, NextError};
-pub use front::Body;
+pub use front::{Body, field_bytes, header_kind, line_bytes, u32_at};
 pub use kind::{Channel, Kind};
 pub use line::{message_line, push_message_line};
 pub use message::{Message, fits};
