@@ -10,6 +10,7 @@ A name is looked up in what the repository has: its files and folders, and the w
 tests/docs/outside lists names of others, as those of Xen's and Qubes' own files. Commands, lines of scripts and
 words of one or two letters aren't looked up.
 """
+import os
 import re
 from functools import cache
 from pathlib import Path
@@ -34,8 +35,11 @@ BLOCK = re.compile(r"^```.*?^```$", re.MULTILINE | re.DOTALL)
 @cache
 def files():
     """The paths of all files and folders, from the top."""
-    found = [it.relative_to(ROOT) for it in ROOT.rglob("*")]
-    return {it.as_posix() for it in found if not MADE & set(it.parts)}
+    found = set()
+    for folder, folders, names in os.walk(ROOT):
+        folders[:] = [it for it in folders if it not in MADE]
+        found |= {Path(folder, it).relative_to(ROOT).as_posix() for it in [*folders, *names]}
+    return found
 
 
 @cache
