@@ -2,7 +2,7 @@
 //! lets through those that it accepts.
 //!
 //! It serves a run, which plays such domains against each other. In Qubes OS `qrexec-daemon` and
-//! `qrexec-policy-daemon` do this, one `qrexec-daemon` for each domain; docs/TASKS.md says what is theirs and
+//! `qrexec-policy-daemon` do this, one `qrexec-daemon` for each domain; docs/QREXEC.md says what is theirs and
 //! what is this project's own.
 #![tactic(auto)]
 

@@ -69,7 +69,7 @@ impl Broker {
         })
     }
 
-    /// Decides an event, and keeps it with its decision. docs/BROKER.md has the table of decisions.
+    /// Decides an event, and keeps it with its decision. docs/QREXEC.md has the table of decisions.
     ///
     /// # Errors
     ///

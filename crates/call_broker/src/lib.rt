@@ -2,7 +2,7 @@
 //!
 //! It serves the task that reads the control channels of all domains: each MSG_TRIGGER_SERVICE3,
 //! MSG_TRIGGER_SERVICE and MSG_CONNECTION_TERMINATED is an event, and each event has one decision.
-//! In Qubes OS the daemons `qrexec-daemon` and `qrexec-policy-daemon` do this; docs/BROKER.md says
+//! In Qubes OS the daemons `qrexec-daemon` and `qrexec-policy-daemon` do this; docs/QREXEC.md says
 //! which rules are theirs and which are this project's own.
 #![tactic(auto)]
 

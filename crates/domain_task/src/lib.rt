@@ -1,7 +1,7 @@
 //! The tasks of a run: the agent of a domain, the task of the broker, and the task of a hostile domain.
 //!
 //! It serves programs that run a scenario: it has one type for the three, which a pool of workers turns.
-//! docs/TASKS.md says in plain words what each task does in a turn and what it owes.
+//! docs/QREXEC.md says in plain words what each task does in a turn and what it owes.
 #![tactic(auto)]
 
 mod done;

@@ -4,7 +4,7 @@
 //! It serves the crates that implement these tasks and those that rest on them. It has no code but
 //! small types: what a task owes is defined by what it was given, by the lists and facts of its
 //! ends after they are retired, and by what it reports. In Qubes OS `qrexec-agent` and
-//! `qrexec-daemon` do what an agent and the broker do in this project; docs/TASKS.md says which
+//! `qrexec-daemon` do what an agent and the broker do in this project; docs/QREXEC.md says which
 //! rules are theirs and which are this project's own.
 #![tactic(auto)]
 

@@ -58,7 +58,7 @@ pub fn tell<K: Sink, E: Sink>(text: &[u8], out: &mut K, err: &mut E) -> Status
     status
 }
 
-const VERSION: &[u8] = b"vchan 0.1.0\nproved with rattle-kit-13f logic dac8208d650f15bf\n";
+const VERSION: &[u8] = b"vchan 0.2.0\nproved with rattle-kit-13f logic dac8208d650f15bf\n";
 
 const HELP: &[u8] = b"usage: vchan WORDS
 
@@ -84,10 +84,9 @@ const HELP: &[u8] = b"usage: vchan WORDS
 
 A command but load, which reads nothing, reads standard input to its end,
 4,194,304 bytes at most, and then writes its text to standard output.
-docs/SCRIPTS.md has the lines of a script, docs/DECODE.md those of a captured
-stream, docs/SCENARIOS.md the keys of a scenario and what run and load print,
-docs/RELAYS.md what relay prints, docs/PERSIST.md the lines of a list of
-clients.
+docs/SCRIPTS.md has the lines of a script and of a captured stream,
+docs/RUNS.md the keys of a scenario and what run and load print,
+docs/CHANNELS.md what relay prints and the lines of a list of clients.
 
 statuses, each but 0 and 8 with a line on standard error:
 
