@@ -253,15 +253,15 @@ static void *write_many(void *got)
 /* A thread that reads and one that writes wait on one end: each goes on, whichever began to wait first. */
 static void wait_both(void)
 {
-	for (int first = 0; first < 2; first++) {
+	for (int round = 0; round < 20; round++) {
+		int first = round % 2, read = 0, wrote = 0, taken = 0, count;
 		pthread_t one, two;
-		int read = 0, wrote = 0, taken = 0, count;
 
 		open_pair(true);
 		CHECK(!pthread_create(&one, NULL, first ? write_many : read_one, first ? &wrote : &read));
-		usleep(100000);
+		usleep(20000);
 		CHECK(!pthread_create(&two, NULL, first ? read_one : write_many, first ? &read : &wrote));
-		usleep(100000);
+		usleep(20000);
 		while (taken < 3000) {
 			CHECK((count = libxenvchan_read(server, data, sizeof data)) > 0);
 			taken += count;

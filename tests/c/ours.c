@@ -479,6 +479,15 @@ static bool wait_fails(void *context)
 	return false;
 }
 
+static struct vchan_page *writer;
+
+static bool write_and_close(void *context)
+{
+	(void)context;
+	CHECK(vchan_page_write(writer, "ab", 2) == 2 && vchan_page_close(writer) == 0);
+	return true;
+}
+
 static bool notify_fails(void *context)
 {
 	(void)context;
@@ -560,8 +569,21 @@ static void misuse(void)
 	/* waits that can't be, or fail */
 	end->with.wait_for_event = NULL;
 	REFUSES(vchan_page_read_wait(end, &byte, 1), EAGAIN);
+	REFUSES(vchan_page_wait(end), EAGAIN);
+	REFUSES(vchan_page_wait(NULL), EINVAL);
 	end->with.wait_for_event = wait_fails;
 	REFUSES(vchan_page_read_wait(end, &byte, 1), EINTR);
+	REFUSES(vchan_page_wait(end), EINTR);
+
+	/* a drain that waits: no byte is no end, and a peer's last bytes come before it */
+	REFUSES(vchan_page_drain_wait(end, &byte, 1), EINTR);
+	REFUSES(vchan_page_drain_wait(end, &byte, 0), EINVAL);
+	end->with.wait_for_event = write_and_close;
+	writer = &line.end[1];
+	CHECK(vchan_page_drain_wait(end, data, sizeof data) == 2 && memcmp(data, "ab", 2) == 0);
+	REFUSES(vchan_page_drain_wait(end, data, sizeof data), EPIPE);
+	clear(&line);
+	lay(&line, zeros, 11, 12, 0);
 
 	/* a callback that makes a call of the end that is inside one */
 	nested = end;
