@@ -52,6 +52,8 @@ static struct shared *map_locks(void)
 __attribute__((constructor)) static void begin(void)
 {
 	list = map_locks();
+	if (getenv("VCHAN_SHOW"))
+		fprintf(stderr, "vchan: the proved ring serves (libvchan_proved.so %s)\n", VCHAN_PAGE_VERSION);
 }
 
 /* Takes a lock, also one whose owner died. Returns false with EDEADLK if the caller has it, as in a signal handler. */
@@ -126,14 +128,10 @@ static struct shared *adopt(struct libxenvchan *of)
 		.prod = __atomic_load_n(&of->write.shr->prod, __ATOMIC_SEQ_CST), .cons = __atomic_load_n(&of->read.shr->cons, __ATOMIC_SEQ_CST),
 		.notify = notify, .wait_for_event = wait_for_event, .context = end,
 	};
-	static bool is_shown;
 
 	if (!end || vchan_page_open(&end->page, &with))
 		return NULL;
 	end->of = of;
-	if (!is_shown && getenv("VCHAN_SHOW"))
-		fprintf(stderr, "vchan: the proved ring serves (libvchan_proved.so %s)\n", VCHAN_PAGE_VERSION);
-	is_shown = true;
 	return end;
 }
 
@@ -233,24 +231,22 @@ static struct libxenvchan *made(struct libxenvchan *of)
 
 struct libxenvchan *libxenvchan_server_init(struct xentoollog_logger *logger, int domain, const char *path, size_t left, size_t right)
 {
-	struct libxenvchan *(*init)(struct xentoollog_logger *, int, const char *, size_t, size_t);
+	__typeof__(libxenvchan_server_init) *init = dlsym(RTLD_NEXT, "libxenvchan_server_init");
 
-	*(void **)&init = dlsym(RTLD_NEXT, "libxenvchan_server_init");
 	return made(init ? init(logger, domain, path, left, right) : NULL);
 }
 
 struct libxenvchan *libxenvchan_client_init(struct xentoollog_logger *logger, int domain, const char *path)
 {
-	struct libxenvchan *(*init)(struct xentoollog_logger *, int, const char *);
+	__typeof__(libxenvchan_client_init) *init = dlsym(RTLD_NEXT, "libxenvchan_client_init");
 
-	*(void **)&init = dlsym(RTLD_NEXT, "libxenvchan_client_init");
 	return made(init ? init(logger, domain, path) : NULL);
 }
 
 /* Shuts the end by the proved call, and leaves the rest to the distribution's close, which shuts and signals again. */
 void libxenvchan_close(struct libxenvchan *of)
 {
-	void (*close_end)(struct libxenvchan *);
+	__typeof__(libxenvchan_close) *close_end = dlsym(RTLD_NEXT, "libxenvchan_close");
 
 	if (of && find(of)) {
 		struct vchan_page *page = enter(of);
@@ -259,7 +255,6 @@ void libxenvchan_close(struct libxenvchan *of)
 			leave(page, vchan_page_close(page));
 		forget(of);
 	}
-	*(void **)&close_end = dlsym(RTLD_NEXT, "libxenvchan_close");
 	if (close_end)
 		close_end(of);
 }

@@ -3,16 +3,16 @@
 #include <limits.h>
 #include <string.h>
 
-enum { PAGE_SIZE = 4096, SMALL_ORDER = 10, LARGE_ORDER = 11 };
-
-/* What a call returns inside this file if nothing can be moved now. */
-enum { NOTHING_NOW = -2 };
+/* NOTHING_NOW is what a call returns inside this file if nothing can be moved now. */
+enum { PAGE_SIZE = 4096, GREATEST_IN_PAGE = 11, NOTHING_NOW = -2 };
 
 static int refuse(int error)
 {
 	errno = error;
 	return -1;
 }
+
+static size_t size_of(uint32_t order) { return (size_t)1 << order; }
 
 static uint8_t *byte_at(const struct vchan_page *page, uint16_t offset)
 {
@@ -61,13 +61,17 @@ static bool signal_peer(const struct vchan_page *page)
 	return page->with.notify(page->with.context);
 }
 
-/* Ends a call. Returns false if the peer can't be signalled. */
+/* Ends a call. Returns false if the peer can't be signalled. An and that finds none of its bits changes nothing, so a
+ * load that finds none is that and. */
 static bool end_call(const struct vchan_page *page, const struct vchan_step *step)
 {
-	uint8_t *word = byte_at(page, step->offset), bits = (uint8_t)step->bits;
+	uint8_t *word = byte_at(page, step->offset), bits = (uint8_t)step->bits, asked;
 
-	if (step->kind == VCHAN_NOTIFY)
-		return !(__atomic_fetch_and(word, (uint8_t)~bits, __ATOMIC_SEQ_CST) & bits) || signal_peer(page);
+	if (step->kind == VCHAN_NOTIFY) {
+		__atomic_load(word, &asked, __ATOMIC_SEQ_CST);
+		asked = asked & bits ? __atomic_fetch_and(word, (uint8_t)~bits, __ATOMIC_SEQ_CST) & bits : 0;
+		return !asked || signal_peer(page);
+	}
 	if (step->kind == VCHAN_GREET) {
 		__atomic_fetch_or(word, bits, __ATOMIC_SEQ_CST);
 		return signal_peer(page);
@@ -91,20 +95,18 @@ static uint64_t awaited(const struct vchan_page *page, const struct vchan_step *
 /* The errno of each enum vchan_refusal. */
 static const int refusals[] = { 0, EBUSY, ENOTCONN, ENOTCONN, EISCONN, EINVAL, EINVAL, EBADF };
 
+/* What an enum vchan_answer comes to: an errno, NOTHING_NOW, or else its count. */
+static const int answers[VCHAN_GONE + 1] = {
+	[VCHAN_FULL] = NOTHING_NOW, [VCHAN_NO_ROOM] = NOTHING_NOW, [VCHAN_EMPTY] = NOTHING_NOW, [VCHAN_SHORT] = NOTHING_NOW,
+	[VCHAN_NOT_YET] = NOTHING_NOW, [VCHAN_PEER_CLOSED] = EPIPE, [VCHAN_ALL_READ] = EPIPE, [VCHAN_PEER_GONE] = EPIPE,
+	[VCHAN_BAD_ORDERS] = EPROTO,
+};
+
 static int answer(const struct vchan_step *step)
 {
-	switch (step->answer) {
-	case VCHAN_WROTE: case VCHAN_SENT: case VCHAN_GOT: case VCHAN_READY: case VCHAN_SPACE: case VCHAN_EVENT:
-		return (int)step->answer_first;
-	case VCHAN_PEER_CLOSED: case VCHAN_ALL_READ:
-		return refuse(EPIPE);
-	case VCHAN_BAD_ORDERS:
-		return refuse(EPROTO);
-	case VCHAN_CONNECTED: case VCHAN_DONE:
-		return 0;
-	default:
-		return NOTHING_NOW;
-	}
+	int is = answers[step->answer];
+
+	return is > 0 ? refuse(is) : is ? is : (int)step->answer_first;
 }
 
 /* Makes a whole call. Returns how many bytes it moved or counted, NOTHING_NOW, or -1 with errno. */
@@ -156,20 +158,15 @@ int vchan_page_close(struct vchan_page *page) { return moved(page, VCHAN_CLOSE, 
 
 int vchan_page_is_open(const struct vchan_page *page)
 {
-	uint8_t role;
+	uint8_t role = page ? (uint8_t)page->with.role : 0;
 
-	if (!page || !page->with.front)
-		return 0;
-	role = (uint8_t)page->with.role;
-	return vchan_end_is_open(role, page->with.persists, (uint8_t)load(page, vchan_end_live(role), 1));
+	return page && page->with.front ? vchan_end_is_open(role, page->with.persists, (uint8_t)load(page, vchan_end_live(role), 1)) : 0;
 }
 
 int vchan_page_wait(struct vchan_page *page)
 {
-	if (!page)
-		return refuse(EINVAL);
-	if (!page->with.wait_for_event)
-		return refuse(EAGAIN);
+	if (!page || !page->with.wait_for_event)
+		return refuse(page ? EAGAIN : EINVAL);
 	return page->with.wait_for_event(page->with.context) ? 0 : -1;
 }
 
@@ -189,7 +186,7 @@ static int packet_waiting(struct vchan_page *page, enum vchan_call call, size_t 
 {
 	bool is_left = page && (page->with.role == VCHAN_CLIENT) == (call == VCHAN_SEND);
 
-	if (page && size > (size_t)1 << (is_left ? page->with.left_order : page->with.right_order))
+	if (page && size > size_of(is_left ? page->with.left_order : page->with.right_order))
 		return refuse(EMSGSIZE);
 	return make_waiting(page, call, size, out, in);
 }
@@ -201,28 +198,28 @@ int vchan_page_recv_wait(struct vchan_page *page, void *data, size_t size) { ret
 
 int vchan_page_write_all(struct vchan_page *page, const void *data, size_t size)
 {
-	size_t done = 0;
-
 	if (size > INT_MAX)
 		return refuse(EMSGSIZE);
-	do {
+	for (size_t done = 0;;) {
 		int count = make_waiting(page, VCHAN_WRITE, size - done, data ? (const uint8_t *)data + done : NULL, NULL);
 
 		if (count < 0)
 			return -1;
 		done += (size_t)count;
-	} while (done < size);
-	return (int)done;
+		if (done == size)
+			return (int)size;
+	}
 }
 
+/* A ring that the page has no place for lies behind what there is already. */
 static size_t place(uint32_t order, size_t *behind)
 {
-	size_t at = *behind;
+	size_t size = size_of(order);
 
-	if (order <= LARGE_ORDER)
-		return (size_t)1 << order;
-	*behind += (size_t)1 << order;
-	return at;
+	if (order <= GREATEST_IN_PAGE)
+		return size;
+	*behind += size;
+	return *behind - size;
 }
 
 int vchan_page_places(uint32_t left_order, uint32_t right_order, struct vchan_places *places)
@@ -258,15 +255,14 @@ static bool are_apart(const void *one, size_t size, const void *other, size_t ot
 int vchan_page_open(struct vchan_page *page, const struct vchan_setup *with)
 {
 	struct vchan_page made;
-	size_t left, right;
 
 	if (!page || !with || !with->front || (uintptr_t)with->front % sizeof(uint32_t) || !with->left || !with->right || !with->notify)
 		return refuse(EINVAL);
 	if (!vchan_end_init(&made.end, with->role, with->state, with->left_order, with->right_order, with->prod, with->cons))
 		return refuse(EINVAL);
-	left = (size_t)1 << with->left_order, right = (size_t)1 << with->right_order;
-	if (!are_apart(with->left, left, with->right, right) || !are_apart(with->front, sizeof *with->front, with->left, left) ||
-	    !are_apart(with->front, sizeof *with->front, with->right, right))
+	if (!are_apart(with->left, size_of(with->left_order), with->right, size_of(with->right_order)) ||
+	    !are_apart(with->front, sizeof *with->front, with->left, size_of(with->left_order)) ||
+	    !are_apart(with->front, sizeof *with->front, with->right, size_of(with->right_order)))
 		return refuse(EINVAL);
 	made.with = *with;
 	*page = made;

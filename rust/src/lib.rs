@@ -434,7 +434,11 @@ impl<'page, E: Events> End<'page, E> {
     fn end_call(&mut self, step: &Step) -> bool {
         let bits = step.bits as u8;
         match step.kind {
-            NOTIFY => self.page.head.byte(step.offset).fetch_and(!bits, SeqCst) & bits != 0,
+            // an and that finds none of its bits changes nothing, so a load that finds none is that and
+            NOTIFY => {
+                let word = self.page.head.byte(step.offset);
+                word.load(SeqCst) & bits != 0 && word.fetch_and(!bits, SeqCst) & bits != 0
+            }
             GREET => {
                 self.page.head.byte(step.offset).fetch_or(bits, SeqCst);
                 true
