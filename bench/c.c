@@ -28,9 +28,10 @@ static void fail(const char *why)
 	exit(1);
 }
 
-static void notify(void *who)
+static bool notify(void *who)
 {
 	give_signal(who ? SERVER : CLIENT);
+	return true;
 }
 
 static bool wait_for_event(void *who)
@@ -49,10 +50,14 @@ static void open_pair(struct pair *pair, bool ours, bool waits)
 		fail("no ends");
 	pair->library[SERVER]->blocking = pair->library[CLIENT]->blocking = waits;
 	for (int who = SERVER; ours && who <= CLIENT; who++) {
-		struct libxenvchan *of = pair->library[SERVER];
+		const struct libxenvchan *of = pair->library[SERVER];
+		struct vchan_setup with = {
+			.role = who == CLIENT ? VCHAN_CLIENT : VCHAN_SERVER, .state = VCHAN_OPEN, .front = (struct vchan_front *)&page,
+			.left = of->read.buffer, .right = of->write.buffer, .left_order = ORDER, .right_order = ORDER,
+			.notify = notify, .wait_for_event = wait_for_event, .context = who == CLIENT ? pair : NULL,
+		};
 
-		if (vchan_page_open(&pair->ours[who], who == CLIENT ? VCHAN_CLIENT : VCHAN_SERVER, VCHAN_OPEN, &page, of->read.buffer,
-				    of->write.buffer, ORDER, ORDER, 0, 0, notify, NULL, wait_for_event, who == CLIENT ? pair : NULL))
+		if (vchan_page_open(&pair->ours[who], &with))
 			fail("no ends of ours");
 	}
 	take_signal(SERVER), take_signal(CLIENT);

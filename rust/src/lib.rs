@@ -1,8 +1,11 @@
 //! One end of a Xen vchan on a page that is mapped already, with the proved library of crates/vchan_c.
 //!
 //! Which loads and stores an end makes, in which order and at which places, how many bytes move and what a call answers
-//! is proved. This crate makes them, and is not proved. Its only `unsafe` is for the library's three functions and
-//! [`Head::at`]. Each byte of a ring is an atomic, so a peer that stores at any moment causes no undefined behaviour.
+//! is proved. This crate makes them, and is not proved. Its `unsafe` is for the library's functions, for [`Head::at`] and
+//! for [`Map`]. Each byte of a ring is an atomic, so a peer that stores at any moment causes no undefined behaviour.
+//!
+//! Two processes share a [`Map`]; `examples/two_processes.rs` sends a file both ways. Within one process a page may be
+//! any memory:
 //!
 //! ```
 //! use std::sync::atomic::AtomicU8;
@@ -10,7 +13,9 @@
 //!
 //! struct NoEvents;
 //! impl Events for NoEvents {
-//!     fn notify(&mut self) {}
+//!     fn notify(&mut self) -> std::io::Result<()> {
+//!         Ok(())
+//!     }
 //!     fn wait(&mut self) -> std::io::Result<()> {
 //!         Err(std::io::ErrorKind::Unsupported.into())
 //!     }
@@ -30,105 +35,18 @@
 //! ```
 use std::fmt;
 use std::io;
-use std::sync::atomic::{AtomicU16, AtomicU32, AtomicU8, Ordering::Relaxed, Ordering::SeqCst};
+use std::sync::atomic::{Ordering::Relaxed, Ordering::SeqCst};
 
 use library::{Kept, Step};
+pub use page::{Head, Map, Page, Places};
 
 mod library;
-
-/// The front of the shared page: Xen's `struct vchan_interface` without the list of grants at its end.
-#[repr(C, align(4))]
-#[derive(Debug, Default)]
-pub struct Head {
-    pub left_cons: AtomicU32,
-    pub left_prod: AtomicU32,
-    pub right_cons: AtomicU32,
-    pub right_prod: AtomicU32,
-    pub left_order: AtomicU16,
-    pub right_order: AtomicU16,
-    pub cli_live: AtomicU8,
-    pub srv_live: AtomicU8,
-    pub cli_notify: AtomicU8,
-    pub srv_notify: AtomicU8,
-}
-
-impl Head {
-    /// Makes the front of a new page, as libxenvchan's server does: it waits for a client.
-    pub fn new(left_order: u16, right_order: u16) -> Head {
-        Head {
-            left_order: left_order.into(),
-            right_order: right_order.into(),
-            cli_live: 2.into(),
-            srv_live: 1.into(),
-            cli_notify: NOTIFY_WRITE.into(),
-            ..Head::default()
-        }
-    }
-
-    /// Returns the front of a page that is mapped at this address.
-    ///
-    /// # Safety
-    ///
-    /// `start` must be a multiple of 4 and point to 24 bytes of memory that stays mapped as long as the result lives,
-    /// and that this process changes only by atomics.
-    pub unsafe fn at<'page>(start: *mut u8) -> &'page Head {
-        unsafe { &*start.cast::<Head>() }
-    }
-
-    fn byte(&self, offset: u16) -> &AtomicU8 {
-        match offset {
-            20 => &self.cli_live,
-            21 => &self.srv_live,
-            22 => &self.cli_notify,
-            _ => &self.srv_notify,
-        }
-    }
-
-    fn index(&self, offset: u16) -> &AtomicU32 {
-        match offset {
-            0 => &self.left_cons,
-            4 => &self.left_prod,
-            8 => &self.right_cons,
-            _ => &self.right_prod,
-        }
-    }
-
-    fn order(&self, offset: u16) -> &AtomicU16 {
-        match offset {
-            16 => &self.left_order,
-            _ => &self.right_order,
-        }
-    }
-
-    fn load(&self, offset: u16, width: u8) -> u64 {
-        match width {
-            1 => self.byte(offset).load(SeqCst).into(),
-            2 => self.order(offset).load(SeqCst).into(),
-            _ => self.index(offset).load(SeqCst).into(),
-        }
-    }
-
-    fn store(&self, offset: u16, width: u8, value: u64) {
-        match width {
-            1 => self.byte(offset).store(value as u8, SeqCst),
-            _ => self.index(offset).store(value as u32, SeqCst),
-        }
-    }
-}
-
-/// A page and its two rings: the client writes the left one, and the server the right one. Their lengths in bytes are
-/// 2^10 to 2^20, by the orders that `head` holds when an end is made.
-#[derive(Clone, Copy, Debug)]
-pub struct Page<'page> {
-    pub head: &'page Head,
-    pub left: &'page [AtomicU8],
-    pub right: &'page [AtomicU8],
-}
+mod page;
 
 /// The caller's event channel.
 pub trait Events {
-    /// Signals the peer.
-    fn notify(&mut self);
+    /// Signals the peer. At an error the call returns [`Error::Notify`]; what it did on the page stays done.
+    fn notify(&mut self) -> io::Result<()>;
 
     /// Waits for a signal of the peer, and takes it. An error ends the call that waits.
     fn wait(&mut self) -> io::Result<()>;
@@ -142,16 +60,22 @@ pub trait Events {
 /// The reasons why a call failed.
 #[derive(Debug)]
 pub enum Error {
-    /// The peer has closed. Bytes of it may still wait: only [`End::drain`] tells the end of the stream.
+    /// The peer has closed. Bytes of it may still wait: only a drain tells the end of the stream.
     PeerClosed,
     /// The end isn't connected, or is shut.
     NotConnected,
     /// The end to connect is connected already.
     Connected,
+    /// The end is inside a call, since one of [`Events`] panicked there.
+    InsideCall,
     /// The page's two numbers aren't orders, or aren't those of the rings.
     BadOrders,
     /// A drain asked for no byte.
     BadLength,
+    /// A packet is longer than its ring.
+    TooLong,
+    /// The peer couldn't be signalled.
+    Notify(io::Error),
     /// The wait for a signal failed.
     Wait(io::Error),
 }
@@ -162,22 +86,53 @@ impl fmt::Display for Error {
             Error::PeerClosed => f.write_str("the peer has closed"),
             Error::NotConnected => f.write_str("the end isn't connected"),
             Error::Connected => f.write_str("the end is connected already"),
+            Error::InsideCall => f.write_str("the end is inside a call"),
             Error::BadOrders => f.write_str("the page's orders are refused"),
             Error::BadLength => f.write_str("a drain needs room for a byte"),
+            Error::TooLong => f.write_str("the packet is longer than its ring"),
+            Error::Notify(error) => write!(f, "signalling the peer: {error}"),
             Error::Wait(error) => write!(f, "waiting for the peer: {error}"),
         }
     }
 }
 
-impl std::error::Error for Error {}
+impl std::error::Error for Error {
+    fn source(&self) -> Option<&(dyn std::error::Error + 'static)> {
+        match self {
+            Error::Notify(error) | Error::Wait(error) => Some(error),
+            _ => None,
+        }
+    }
+}
 
-const NOTIFY_WRITE: u8 = 1;
+impl From<Error> for io::Error {
+    fn from(error: Error) -> io::Error {
+        match error {
+            Error::Notify(error) | Error::Wait(error) => error,
+            Error::PeerClosed => io::Error::new(io::ErrorKind::BrokenPipe, error),
+            Error::NotConnected => io::Error::new(io::ErrorKind::NotConnected, error),
+            _ => io::Error::other(error),
+        }
+    }
+}
+
+/// Whether an end's peer is there.
+#[derive(Clone, Copy, Debug, PartialEq, Eq)]
+pub enum Peer {
+    /// It has closed.
+    Closed,
+    /// It is there.
+    Open,
+    /// A client may still come.
+    MayCome,
+}
 
 /// Kinds of steps, as `enum vchan_kind` of c/vchan_end.h.
 const ANSWER: u8 = 0;
 const OR: u8 = 2;
 const NOTIFY: u8 = 3;
 const SWAP: u8 = 4;
+const GREET: u8 = 6;
 
 #[derive(Clone, Copy)]
 enum Call {
@@ -244,8 +199,8 @@ impl<'page, E: Events> End<'page, E> {
         cons: u32,
     ) -> Result<End<'page, E>, Error> {
         let orders = (
-            page.head.left_order.load(SeqCst),
-            page.head.right_order.load(SeqCst),
+            page.head.left_order.load(SeqCst).into(),
+            page.head.right_order.load(SeqCst).into(),
         );
         let state = u8::from(!is_client || is_connected);
         let kept =
@@ -263,78 +218,104 @@ impl<'page, E: Events> End<'page, E> {
 
     /// Writes as many bytes as have room, and returns how many; 0 if there is no room now.
     pub fn write(&mut self, bytes: &[u8]) -> Result<usize, Error> {
-        self.moved(Call::Write, Bytes::Out(bytes))
+        Ok(self.make(Call::Write, Bytes::Out(bytes))?.unwrap_or(0))
     }
 
     /// Writes all bytes or none, and returns whether it wrote them.
     pub fn send(&mut self, bytes: &[u8]) -> Result<bool, Error> {
-        Ok(self.moved(Call::Send, Bytes::Out(bytes))? == bytes.len())
+        Ok(self.make(Call::Send, Bytes::Out(bytes))?.is_some())
     }
 
     /// Reads as many bytes as wait and have room in `into`, and returns how many; 0 if none waits now.
     pub fn read(&mut self, into: &mut [u8]) -> Result<usize, Error> {
-        self.moved(Call::Read, Bytes::In(into))
+        Ok(self.make(Call::Read, Bytes::In(into))?.unwrap_or(0))
     }
 
     /// Fills `into` or reads nothing, and returns whether it filled it.
     pub fn recv(&mut self, into: &mut [u8]) -> Result<bool, Error> {
-        let len = into.len();
-        Ok(self.moved(Call::Recv, Bytes::In(into))? == len)
+        Ok(self.make(Call::Recv, Bytes::In(into))?.is_some())
     }
 
     /// Reads as [`End::read`] does, but [`Error::PeerClosed`] means the end of the stream: the peer has closed, and all
     /// was read. Returns [`Error::BadLength`] if `into` is empty.
     pub fn drain(&mut self, into: &mut [u8]) -> Result<usize, Error> {
-        self.moved(Call::Drain, Bytes::In(into))
+        Ok(self.make(Call::Drain, Bytes::In(into))?.unwrap_or(0))
     }
 
     /// Returns how many bytes wait. The end is signalled when there are more.
     pub fn data_ready(&mut self) -> Result<usize, Error> {
-        self.moved(Call::DataReady, Bytes::None)
+        Ok(self.make(Call::DataReady, Bytes::None)?.unwrap_or(0))
     }
 
     /// Returns how many bytes have room. The end is signalled when there is more room.
     pub fn buffer_space(&mut self) -> Result<usize, Error> {
-        self.moved(Call::BufferSpace, Bytes::None)
+        Ok(self.make(Call::BufferSpace, Bytes::None)?.unwrap_or(0))
     }
 
     /// Takes the pending signal of the peer, and returns whether there was one.
     pub fn take_event(&mut self) -> Result<bool, Error> {
-        Ok(self.moved(Call::TakeEvent, Bytes::None)? == 1)
+        Ok(self.make(Call::TakeEvent, Bytes::None)? == Some(1))
     }
 
     /// Opens a client, as libxenvchan does: it asks for signals for data, and signals. Returns [`Error::BadOrders`] if
     /// the page no longer holds the orders that the end was made with, and [`Error::Connected`] if the end is open.
     pub fn connect(&mut self) -> Result<(), Error> {
-        self.moved(Call::Connect, Bytes::None)?;
-        self.page.head.srv_notify.fetch_or(NOTIFY_WRITE, SeqCst);
-        self.events.notify();
-        Ok(())
+        self.make(Call::Connect, Bytes::None).map(|_| ())
     }
 
     /// Shuts the end, and signals the peer.
     pub fn close(&mut self) -> Result<(), Error> {
-        self.moved(Call::Close, Bytes::None).map(|_| ())
+        self.make(Call::Close, Bytes::None).map(|_| ())
+    }
+
+    /// Returns whether the peer is there.
+    pub fn peer(&self) -> Peer {
+        let role = u8::from(self.is_client);
+        let live = self.page.head.byte(library::live(role)).load(SeqCst);
+        match library::is_open(role, live) {
+            0 => Peer::Closed,
+            2 => Peer::MayCome,
+            _ => Peer::Open,
+        }
     }
 
     /// Returns whether the peer is there, or may still come.
     pub fn is_open(&self) -> bool {
-        let head = self.page.head;
-        let live = if self.is_client {
-            &head.srv_live
-        } else {
-            &head.cli_live
-        };
-        live.load(SeqCst) != 0
+        self.peer() != Peer::Closed
+    }
+
+    /// The event channel that the end was made with.
+    pub fn events(&self) -> &E {
+        &self.events
+    }
+
+    /// The event channel that the end was made with, for a caller that waits itself.
+    pub fn events_mut(&mut self) -> &mut E {
+        &mut self.events
+    }
+
+    /// Waits for a signal of the peer, and takes it. Behind a call that moved nothing none is lost: the call asked for
+    /// a signal before it looked again.
+    pub fn wait(&mut self) -> Result<(), Error> {
+        self.events.wait().map_err(Error::Wait)
     }
 
     /// Writes all bytes, and waits for room. Bytes that were written before an error stay written.
     pub fn write_all(&mut self, mut bytes: &[u8]) -> Result<(), Error> {
         while !bytes.is_empty() {
             match self.write(bytes)? {
-                0 => self.events.wait().map_err(Error::Wait)?,
+                0 => self.wait()?,
                 count => bytes = &bytes[count..],
             }
+        }
+        Ok(())
+    }
+
+    /// Writes all bytes at once, and waits until they have room. Returns [`Error::TooLong`] if they never will.
+    pub fn send_wait(&mut self, bytes: &[u8]) -> Result<(), Error> {
+        self.check_packet(bytes.len(), self.is_client)?;
+        while !self.send(bytes)? {
+            self.wait()?;
         }
         Ok(())
     }
@@ -343,27 +324,54 @@ impl<'page, E: Events> End<'page, E> {
     pub fn read_wait(&mut self, into: &mut [u8]) -> Result<usize, Error> {
         loop {
             match self.read(into)? {
-                0 if !into.is_empty() => self.events.wait().map_err(Error::Wait)?,
+                0 if !into.is_empty() => self.wait()?,
                 count => return Ok(count),
             }
         }
     }
 
-    fn moved(&mut self, call: Call, bytes: Bytes) -> Result<usize, Error> {
-        let step = self.make(call, bytes)?;
-        match step.answer {
-            1 | 3 | 5 | 9 | 10 | 14 => Ok(step.answer_first as usize),
-            8 | 16 => Err(Error::PeerClosed),
-            12 => Err(Error::BadOrders),
-            _ => Ok(0),
+    /// Fills `into`, and waits until so many bytes are there. Returns [`Error::TooLong`] if they never will be.
+    pub fn recv_wait(&mut self, into: &mut [u8]) -> Result<(), Error> {
+        self.check_packet(into.len(), !self.is_client)?;
+        while !self.recv(into)? {
+            self.wait()?;
+        }
+        Ok(())
+    }
+
+    /// Reads at least one byte, and waits for it; but [`Error::PeerClosed`] means the end of the stream, as in
+    /// [`End::drain`]. This is the call for a loop that reads all.
+    pub fn drain_wait(&mut self, into: &mut [u8]) -> Result<usize, Error> {
+        loop {
+            match self.drain(into)? {
+                0 => self.wait()?,
+                count => return Ok(count),
+            }
         }
     }
 
-    /// Makes a whole call, and returns its last step.
-    fn make(&mut self, call: Call, mut bytes: Bytes) -> Result<Step, Error> {
+    /// Returns this end as an [`io::Read`] and [`io::Write`] whose calls wait.
+    pub fn stream(&mut self) -> Stream<'_, 'page, E> {
+        Stream(self)
+    }
+
+    fn check_packet(&self, len: usize, is_left: bool) -> Result<(), Error> {
+        let ring = match is_left {
+            true => self.page.left,
+            false => self.page.right,
+        };
+        match len <= ring.len() {
+            true => Ok(()),
+            false => Err(Error::TooLong),
+        }
+    }
+
+    /// Makes a whole call. Returns how many bytes it moved or counted, or `None` if nothing can be moved now.
+    fn make(&mut self, call: Call, mut bytes: Bytes) -> Result<Option<usize>, Error> {
         let mut step = Step::default();
         match library::begin(&mut self.kept, call as u8, bytes.len(), &mut step) {
             0 => {}
+            1 => return Err(Error::InsideCall),
             4 => return Err(Error::Connected),
             5 => return Err(Error::BadLength),
             _ => return Err(Error::NotConnected),
@@ -375,16 +383,13 @@ impl<'page, E: Events> End<'page, E> {
                     .head
                     .store(step.store_offset, step.store_width, step.stored);
             }
-            if step.signals != 0 {
-                self.events.notify();
-            }
-            match step.kind {
-                ANSWER => return Ok(step),
-                NOTIFY => {
-                    self.notify_peer(&step);
-                    return Ok(step);
+            let mut signals = step.signals != 0;
+            if let ANSWER | NOTIFY | GREET = step.kind {
+                signals |= self.end_call(&step);
+                if signals {
+                    self.events.notify().map_err(Error::Notify)?;
                 }
-                _ => {}
+                return answer(&step);
             }
             let value = self.awaited(&step);
             let look = match step.look_width {
@@ -425,12 +430,20 @@ impl<'page, E: Events> End<'page, E> {
         }
     }
 
-    /// Makes the notify with which a call ends: what the peer asked for is cleared, and it is signalled.
-    fn notify_peer(&mut self, step: &Step) {
+    /// Ends a call on the page, and returns whether the peer is to be signalled: where it asked, or after a connect.
+    fn end_call(&mut self, step: &Step) -> bool {
         let bits = step.bits as u8;
-        let word = self.page.head.byte(step.offset);
-        if word.fetch_and(!bits, SeqCst) & bits != 0 {
-            self.events.notify();
+        match step.kind {
+            // an and that finds none of its bits changes nothing, so a load that finds none is that and
+            NOTIFY => {
+                let word = self.page.head.byte(step.offset);
+                word.load(SeqCst) & bits != 0 && word.fetch_and(!bits, SeqCst) & bits != 0
+            }
+            GREET => {
+                self.page.head.byte(step.offset).fetch_or(bits, SeqCst);
+                true
+            }
+            _ => false,
         }
     }
 
@@ -450,7 +463,51 @@ impl<'page, E: Events> End<'page, E> {
     }
 }
 
+/// What the last step of a call answers.
+fn answer(step: &Step) -> Result<Option<usize>, Error> {
+    match step.answer {
+        1 | 3 | 5 | 9 | 10 | 14 => Ok(Some(step.answer_first as usize)),
+        8 | 16 => Err(Error::PeerClosed),
+        12 => Err(Error::BadOrders),
+        11 | 13 => Ok(Some(0)),
+        _ => Ok(None),
+    }
+}
+
+/// An end as a stream of bytes: each call waits until it can move some. A read returns 0 at the end of the stream, and a
+/// write fails with [`io::ErrorKind::BrokenPipe`] if the peer has closed.
+#[derive(Debug)]
+pub struct Stream<'end, 'page, E>(&'end mut End<'page, E>);
+
+impl<E: Events> io::Read for Stream<'_, '_, E> {
+    fn read(&mut self, into: &mut [u8]) -> io::Result<usize> {
+        if into.is_empty() {
+            return Ok(0);
+        }
+        match self.0.drain_wait(into) {
+            Err(Error::PeerClosed) => Ok(0),
+            other => Ok(other?),
+        }
+    }
+}
+
+impl<E: Events> io::Write for Stream<'_, '_, E> {
+    fn write(&mut self, bytes: &[u8]) -> io::Result<usize> {
+        loop {
+            match self.0.write(bytes)? {
+                0 if !bytes.is_empty() => self.0.wait()?,
+                count => return Ok(count),
+            }
+        }
+    }
+
+    /// Does nothing: what was written lies in the ring.
+    fn flush(&mut self) -> io::Result<()> {
+        Ok(())
+    }
+}
+
 /// Runs the Rust code in docs/LIBRARY.md as a test.
-#[cfg(doctest)]
+#[cfg(all(doctest, in_repository))]
 #[doc = include_str!("../../docs/LIBRARY.md")]
 struct LibraryDocument;

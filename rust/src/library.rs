@@ -37,22 +37,35 @@ const _: () = assert!(size_of::<Kept>() == 32 && size_of::<Step>() == 56);
 unsafe extern "C" {
     fn vchan_end_init(
         end: &mut Kept,
-        role: u8,
-        state: u8,
-        left: u16,
-        right: u16,
+        role: u32,
+        state: u32,
+        left: u32,
+        right: u32,
         prod: u32,
         cons: u32,
     ) -> bool;
     fn vchan_end_begin(end: &mut Kept, call: u8, len: u32, step: &mut Step) -> u8;
     fn vchan_end_took(end: &mut Kept, value: u64, look: u64, step: &mut Step) -> bool;
+    fn vchan_end_live(role: u8) -> u16;
+    fn vchan_end_is_open(role: u8, persists: bool, live: u8) -> u8;
 }
 
-// SAFETY of all three: the declarations match c/vchan_end.h, and the functions accept any numbers.
+// SAFETY of all five: the declarations match c/vchan_end.h, and the functions accept any numbers.
 
-pub fn init(role: u8, state: u8, orders: (u16, u16), prod: u32, cons: u32) -> Option<Kept> {
+pub fn init(role: u8, state: u8, orders: (u32, u32), prod: u32, cons: u32) -> Option<Kept> {
     let mut end = Kept::default();
-    unsafe { vchan_end_init(&mut end, role, state, orders.0, orders.1, prod, cons) }.then_some(end)
+    unsafe {
+        vchan_end_init(
+            &mut end,
+            role.into(),
+            state.into(),
+            orders.0,
+            orders.1,
+            prod,
+            cons,
+        )
+    }
+    .then_some(end)
 }
 
 pub fn begin(end: &mut Kept, call: u8, len: u32, step: &mut Step) -> u8 {
@@ -61,4 +74,13 @@ pub fn begin(end: &mut Kept, call: u8, len: u32, step: &mut Step) -> u8 {
 
 pub fn took(end: &mut Kept, value: u64, look: u64, step: &mut Step) -> bool {
     unsafe { vchan_end_took(end, value, look, step) }
+}
+
+/// The offset of the byte that tells an end of this role whether its peer is there.
+pub fn live(role: u8) -> u16 {
+    unsafe { vchan_end_live(role) }
+}
+
+pub fn is_open(role: u8, live: u8) -> u8 {
+    unsafe { vchan_end_is_open(role, false, live) }
 }

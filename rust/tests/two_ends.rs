@@ -29,8 +29,9 @@ fn line() -> (Line, Line) {
 }
 
 impl Events for Line {
-    fn notify(&mut self) {
+    fn notify(&mut self) -> io::Result<()> {
         self.peer.send(()).ok();
+        Ok(())
     }
 
     fn wait(&mut self) -> io::Result<()> {
@@ -128,31 +129,35 @@ fn bad_pages_are_refused() {
 #[repr(C, align(16))]
 struct CPage([u64; 32]);
 
+/// A struct vchan_setup of it.
+#[repr(C)]
+struct CSetup {
+    role: c_int,
+    state: c_int,
+    front: *mut c_void,
+    left: *mut c_void,
+    right: *mut c_void,
+    left_order: u32,
+    right_order: u32,
+    prod: u32,
+    cons: u32,
+    notify: extern "C" fn(*mut c_void) -> bool,
+    take_event: Option<extern "C" fn(*mut c_void) -> bool>,
+    wait_for_event: Option<extern "C" fn(*mut c_void) -> bool>,
+    context: *mut c_void,
+    persists: bool,
+}
+
 extern "C" {
-    fn vchan_page_open(
-        page: *mut CPage,
-        role: c_int,
-        state: c_int,
-        head: *mut c_void,
-        left: *mut c_void,
-        right: *mut c_void,
-        left_order: u16,
-        right_order: u16,
-        prod: u32,
-        cons: u32,
-        notify: extern "C" fn(*mut c_void),
-        take_event: Option<extern "C" fn(*mut c_void) -> bool>,
-        wait_for_event: Option<extern "C" fn(*mut c_void) -> bool>,
-        context: *mut c_void,
-    ) -> c_int;
+    fn vchan_page_open(page: *mut CPage, with: *const CSetup) -> c_int;
     fn vchan_page_connect(page: *mut CPage) -> c_int;
     fn vchan_page_read_wait(page: *mut CPage, data: *mut c_void, size: usize) -> c_int;
     fn vchan_page_write_all(page: *mut CPage, data: *const c_void, size: usize) -> c_int;
     fn vchan_page_close(page: *mut CPage) -> c_int;
 }
 
-extern "C" fn notify(line: *mut c_void) {
-    unsafe { &mut *line.cast::<Line>() }.notify();
+extern "C" fn notify(line: *mut c_void) -> bool {
+    unsafe { &mut *line.cast::<Line>() }.notify().is_ok()
 }
 
 extern "C" fn wait(line: *mut c_void) -> bool {
@@ -163,27 +168,25 @@ extern "C" fn wait(line: *mut c_void) -> bool {
 fn echo_in_c(page: Page, orders: (u16, u16), mut line: Line) {
     let mut end = CPage([0; 32]);
     let start = |ring: &[AtomicU8]| ring.as_ptr().cast_mut().cast::<c_void>();
-    let head = std::ptr::from_ref(page.head).cast_mut().cast::<c_void>();
-    let context = (&raw mut line).cast::<c_void>();
+    let with = CSetup {
+        role: 1,
+        state: 0,
+        front: std::ptr::from_ref(page.head).cast_mut().cast::<c_void>(),
+        left: start(page.left),
+        right: start(page.right),
+        left_order: orders.0.into(),
+        right_order: orders.1.into(),
+        prod: 0,
+        cons: 0,
+        notify,
+        take_event: None,
+        wait_for_event: Some(wait),
+        context: (&raw mut line).cast::<c_void>(),
+        persists: false,
+    };
     let mut buffer = [0u8; 600];
     unsafe {
-        let opened = vchan_page_open(
-            &mut end,
-            1,
-            0,
-            head,
-            start(page.left),
-            start(page.right),
-            orders.0,
-            orders.1,
-            0,
-            0,
-            notify,
-            None,
-            Some(wait),
-            context,
-        );
-        assert_eq!(opened, 0);
+        assert_eq!(vchan_page_open(&mut end, &with), 0);
         assert_eq!(vchan_page_connect(&mut end), 0);
         let mut at = 0;
         while at < TOTAL {
@@ -199,6 +202,7 @@ fn echo_in_c(page: Page, orders: (u16, u16), mut line: Line) {
     }
 }
 
+#[cfg(in_repository)]
 #[test]
 fn bytes_come_back_from_c() {
     let orders = (11, 12);

@@ -29,9 +29,10 @@ struct either {
 	struct vchan_page ours;
 };
 
-static void notify(void *end)
+static bool notify(void *end)
 {
 	give_signal(!((struct either *)end)->who);
+	return true;
 }
 
 static bool take_event(void *end)
@@ -58,11 +59,14 @@ static void open_ours(struct either *end, int left, int right)
 {
 	struct vchan_interface *head = &page.header;
 	bool client = end->who == CLIENT;
+	struct vchan_setup with = {
+		.role = client ? VCHAN_CLIENT : VCHAN_SERVER, .state = client ? VCHAN_FRESH : VCHAN_OPEN, .front = (struct vchan_front *)head,
+		.left = ring_at(left, 0), .right = ring_at(right, pages_of(left)), .left_order = (uint32_t)left, .right_order = (uint32_t)right,
+		.prod = client ? head->left.prod : head->right.prod, .cons = client ? head->right.cons : head->left.cons,
+		.notify = notify, .take_event = take_event, .wait_for_event = wait_for_event, .context = end,
+	};
 
-	CHECK(vchan_page_open(&end->ours, client ? VCHAN_CLIENT : VCHAN_SERVER, client ? VCHAN_FRESH : VCHAN_OPEN, head,
-			      ring_at(left, 0), ring_at(right, pages_of(left)), (uint16_t)left, (uint16_t)right,
-			      client ? head->left.prod : head->right.prod, client ? head->right.cons : head->left.cons, notify,
-			      take_event, wait_for_event, end) == 0);
+	CHECK(vchan_page_open(&end->ours, &with) == 0);
 }
 
 /* Lays a page as the library's server lays one. */
@@ -70,8 +74,7 @@ static void lay(int left, int right)
 {
 	struct vchan_interface *head = &page.header;
 
-	head->left_order = (uint16_t)left, head->right_order = (uint16_t)right;
-	head->cli_live = 2, head->srv_live = 1, head->cli_notify = VCHAN_NOTIFY_WRITE;
+	CHECK(vchan_page_lay((struct vchan_front *)head, (uint32_t)left, (uint32_t)right) == 0);
 	for (int i = 0; i < pages_of(left) + pages_of(right); i++)
 		head->grants[i] = (uint32_t)i;
 }

@@ -16,10 +16,10 @@
 #include <sys/wait.h>
 #include <unistd.h>
 
-#define HEAD_SIZE 24
+#define HEAD_SIZE sizeof(struct vchan_front)
 #define PATIENCE 20000 /* milliseconds that a thread waits for a signal */
 
-/* Offsets in struct vchan_interface. */
+/* Offsets in Xen's struct vchan_interface, by hand. */
 enum { LEFT_CONS = 0, LEFT_PROD = 4, RIGHT_CONS = 8, RIGHT_PROD = 12, LEFT_ORDER = 16, RIGHT_ORDER = 18, CLI_LIVE = 20,
        SRV_LIVE = 21, CLI_NOTIFY = 22, SRV_NOTIFY = 23 };
 enum { BIT_WRITTEN = 1, BIT_CONSUMED = 2 };
@@ -57,11 +57,11 @@ struct line {
 	struct ear { int own, peer; } ear[2];
 };
 
-static void notify(void *context)
+static bool notify(void *context)
 {
 	uint64_t one = 1;
 
-	CHECK(write(((struct ear *)context)->peer, &one, sizeof one) == sizeof one);
+	return write(((struct ear *)context)->peer, &one, sizeof one) == sizeof one;
 }
 
 static bool take(int fd, int patience)
@@ -89,31 +89,45 @@ static bool wait_for_event(void *context)
 	return came;
 }
 
+static struct vchan_setup setup_of(struct line *line, int who, uint32_t start)
+{
+	return (struct vchan_setup){
+		.role = who ? VCHAN_CLIENT : VCHAN_SERVER, .state = who ? VCHAN_FRESH : VCHAN_OPEN,
+		.front = (struct vchan_front *)(void *)line->head, .left = line->ring[0], .right = line->ring[1],
+		.left_order = (uint32_t)line->left, .right_order = (uint32_t)line->right, .prod = start, .cons = start,
+		.notify = notify, .take_event = take_event, .wait_for_event = wait_for_event, .context = &line->ear[who],
+	};
+}
+
 /* A new page with a server, and a client that connects. Both counts of both rings begin at `start`. */
 static void lay(struct line *line, void *(*block)(size_t), int left, int right, uint32_t start)
 {
 	uint16_t order[2] = { (uint16_t)left, (uint16_t)right };
 	int fd[2] = { eventfd(0, 0), eventfd(0, 0) };
+	uint8_t new[HEAD_SIZE] = { 0 };
 
 	line->left = left, line->right = right;
 	line->head = block(HEAD_SIZE);
 	line->ring[0] = block((size_t)1 << left);
 	line->ring[1] = block((size_t)1 << right);
+	memset(line->head, 0xff, HEAD_SIZE);
+	CHECK(vchan_page_lay((struct vchan_front *)(void *)line->head, order[0], order[1]) == 0);
+	memcpy(new + LEFT_ORDER, order, sizeof order);
+	new[CLI_LIVE] = 2, new[SRV_LIVE] = 1, new[CLI_NOTIFY] = BIT_WRITTEN;
+	CHECK(memcmp(line->head, new, HEAD_SIZE) == 0);
 	for (int word = LEFT_CONS; word <= RIGHT_PROD; word += 4)
 		memcpy(line->head + word, &start, sizeof start);
-	memcpy(line->head + LEFT_ORDER, order, sizeof order);
-	line->head[CLI_LIVE] = 2, line->head[SRV_LIVE] = 1;
-	line->head[CLI_NOTIFY] = BIT_WRITTEN, line->head[SRV_NOTIFY] = 0;
 	for (int who = 0; who < 2; who++) {
+		struct vchan_setup with = setup_of(line, who, start);
+
 		line->ear[who] = (struct ear){ fd[who], fd[!who] };
-		CHECK(vchan_page_open(&line->end[who], who ? VCHAN_CLIENT : VCHAN_SERVER, who ? VCHAN_FRESH : VCHAN_OPEN, line->head,
-				      line->ring[0], line->ring[1], order[0], order[1], start, start, notify, take_event,
-				      wait_for_event, &line->ear[who]) == 0);
+		CHECK(vchan_page_open(&line->end[who], &with) == 0);
 	}
+	CHECK(vchan_page_is_open(&line->end[0]) == 2 && vchan_page_is_open(&line->end[1]) == 1);
 	CHECK(vchan_page_write(&line->end[1], "x", 1) == -1 && errno == ENOTCONN);
 	CHECK(vchan_page_connect(&line->end[1]) == 0);
 	CHECK(vchan_page_connect(&line->end[1]) == -1 && errno == EISCONN);
-	CHECK(line->head[CLI_LIVE] == 1 && (line->head[SRV_NOTIFY] & BIT_WRITTEN));
+	CHECK(line->head[CLI_LIVE] == 1 && line->head[SRV_NOTIFY] == BIT_WRITTEN);
 	CHECK(vchan_page_is_open(&line->end[0]) == 1 && vchan_page_is_open(&line->end[1]) == 1);
 	CHECK(vchan_page_take_event(&line->end[0]) == 1 && vchan_page_take_event(&line->end[0]) == 0);
 }
@@ -383,7 +397,7 @@ static void beside_hostile(int left, int right, int calls)
 		CHECK(!pthread_create(&thread, NULL, store_on, &hostile));
 		for (int i = 0; i < calls; i++) {
 			int act = i % 7, reads = act == 2 || act == 3 || act == 6, ring = reads || act == 4 ? who : !who;
-			size_t size = line.end[who].size[ring], n = draw() % 3 ? draw() % 64 : draw() % (2 * size);
+			size_t size = (size_t)1 << (ring ? right : left), n = draw() % 3 ? draw() % 64 : draw() % (2 * size);
 			uint8_t *data = calloc(1, n ? n : 1);
 			int count;
 
@@ -465,31 +479,75 @@ static bool wait_fails(void *context)
 	return false;
 }
 
+static struct vchan_page *writer;
+
+static bool write_and_close(void *context)
+{
+	(void)context;
+	CHECK(vchan_page_write(writer, "ab", 2) == 2 && vchan_page_close(writer) == 0);
+	return true;
+}
+
+static bool notify_fails(void *context)
+{
+	(void)context;
+	errno = EIO;
+	return false;
+}
+
 #define REFUSES(call, why) CHECK((errno = 0, (call) == -1) && errno == (why))
 
 /* What a caller can get wrong is answered, and changes nothing. */
 static void misuse(void)
 {
 	struct line line;
-	struct vchan_page page = { .head = NULL }, before = page, *end;
-	uint8_t byte = 1;
+	struct vchan_page page = { .with = { .front = NULL } }, before = page, *end;
+	struct vchan_places places;
+	struct vchan_setup other;
+	uint8_t byte = 1, data[64];
 
 	lay(&line, zeros, 11, 12, 0);
-#define OPEN(role, state, head, left, right, left_order, right_order, notify) \
-	REFUSES(vchan_page_open(&page, role, state, head, left, right, left_order, right_order, 0, 0, notify, NULL, NULL, NULL), EINVAL); \
-	CHECK(memcmp(&page, &before, sizeof page) == 0)
-	OPEN(VCHAN_SERVER, VCHAN_OPEN, NULL, line.ring[0], line.ring[1], 11, 12, notify);
-	OPEN(VCHAN_SERVER, VCHAN_OPEN, line.head + 1, line.ring[0], line.ring[1], 11, 12, notify);
-	OPEN(VCHAN_SERVER, VCHAN_OPEN, line.head, NULL, line.ring[1], 11, 12, notify);
-	OPEN(VCHAN_SERVER, VCHAN_OPEN, line.head, line.ring[0], line.ring[0], 11, 12, notify);
-	OPEN(VCHAN_SERVER, VCHAN_OPEN, line.head, line.ring[0], line.ring[1], 11, 12, NULL);
-	OPEN(VCHAN_SERVER, VCHAN_OPEN, line.head, line.ring[0], line.ring[1], 11, 11, notify);
-	OPEN(VCHAN_SERVER, VCHAN_OPEN, line.head, line.ring[0], line.ring[1], 9, 12, notify);
-	OPEN(VCHAN_SERVER, VCHAN_OPEN, line.head, line.ring[0], line.ring[1], 12, 21, notify);
-	OPEN(VCHAN_SERVER, VCHAN_FRESH, line.head, line.ring[0], line.ring[1], 11, 12, notify);
-	OPEN((enum vchan_role)2, VCHAN_OPEN, line.head, line.ring[0], line.ring[1], 11, 12, notify);
-	OPEN(VCHAN_CLIENT, (enum vchan_state)3, line.head, line.ring[0], line.ring[1], 11, 12, notify);
-	REFUSES(vchan_page_open(NULL, VCHAN_SERVER, VCHAN_OPEN, line.head, line.ring[0], line.ring[1], 11, 12, 0, 0, notify, NULL, NULL, NULL), EINVAL);
+#define OPENS(change) \
+	do { \
+		struct vchan_setup with = setup_of(&line, 0, 0); \
+\
+		change; \
+		REFUSES(vchan_page_open(&page, &with), EINVAL); \
+		CHECK(memcmp(&page, &before, sizeof page) == 0); \
+	} while (0)
+	OPENS(with.front = NULL);
+	OPENS(with.front = (struct vchan_front *)(void *)(line.head + 1));
+	OPENS(with.left = NULL);
+	OPENS(with.right = NULL);
+	OPENS(with.notify = NULL);
+	OPENS(with.right_order = 11);
+	OPENS(with.left_order = 9);
+	OPENS(with.right_order = 21);
+	OPENS(with.left_order = 65536 + 11);
+	OPENS(with.state = VCHAN_FRESH);
+	OPENS(with.role = (enum vchan_role)2);
+	OPENS(with.role = (enum vchan_role)257);
+	OPENS((with.role = VCHAN_CLIENT, with.state = (enum vchan_state)3));
+	OPENS(with.state = (enum vchan_state)257);
+	OPENS((with.role = VCHAN_CLIENT, with.state = (enum vchan_state)258));
+	/* rings on one another, and on the front */
+	OPENS(with.right = with.left);
+	OPENS(with.right = line.ring[0] + 2047);
+	OPENS(with.left = line.ring[1] + 4095);
+	OPENS(with.left = line.ring[1] - 2047);
+	OPENS(with.left = line.head + HEAD_SIZE - 1);
+	OPENS(with.right = line.head - 4095);
+	OPENS(with.right = line.head);
+	REFUSES(vchan_page_open(NULL, &(struct vchan_setup){ 0 }), EINVAL);
+	REFUSES(vchan_page_open(&page, NULL), EINVAL);
+	REFUSES(vchan_page_lay(NULL, 11, 12), EINVAL);
+	REFUSES(vchan_page_lay((struct vchan_front *)(void *)line.head, 10, 10), EINVAL);
+	REFUSES(vchan_page_places(11, 12, NULL), EINVAL);
+	REFUSES(vchan_page_places(11, 11, &places), EINVAL);
+	REFUSES(vchan_page_places(65546, 11, &places), EINVAL);
+	CHECK(vchan_page_places(10, 11, &places) == 0 && places.left == 1024 && places.right == 2048 && places.size == 4096);
+	CHECK(vchan_page_places(11, 12, &places) == 0 && places.left == 2048 && places.right == 4096 && places.size == 8192);
+	CHECK(vchan_page_places(20, 13, &places) == 0 && places.left == 4096 && places.right == 4096 + (1 << 20) && places.size == places.right + 8192);
 
 	/* an end that was never opened, and none */
 	REFUSES(vchan_page_write(&page, &byte, 1), EBADF);
@@ -505,29 +563,64 @@ static void misuse(void)
 	REFUSES(vchan_page_send_wait(end, &byte, 4097), EMSGSIZE);
 	REFUSES(vchan_page_recv_wait(end, &byte, 2049), EMSGSIZE);
 	REFUSES(vchan_page_write_all(end, &byte, (size_t)1 << 31), EMSGSIZE);
+	/* a size that 32 bits don't hold is no small one */
+	CHECK(vchan_page_send(&line.end[1], data, ((size_t)1 << 32) + 5) == 0);
 
 	/* waits that can't be, or fail */
-	end->wait_for_event = NULL;
+	end->with.wait_for_event = NULL;
 	REFUSES(vchan_page_read_wait(end, &byte, 1), EAGAIN);
-	end->wait_for_event = wait_fails;
+	REFUSES(vchan_page_wait(end), EAGAIN);
+	REFUSES(vchan_page_wait(NULL), EINVAL);
+	end->with.wait_for_event = wait_fails;
 	REFUSES(vchan_page_read_wait(end, &byte, 1), EINTR);
+	REFUSES(vchan_page_wait(end), EINTR);
+
+	/* a drain that waits: no byte is no end, and a peer's last bytes come before it */
+	REFUSES(vchan_page_drain_wait(end, &byte, 1), EINTR);
+	REFUSES(vchan_page_drain_wait(end, &byte, 0), EINVAL);
+	end->with.wait_for_event = write_and_close;
+	writer = &line.end[1];
+	CHECK(vchan_page_drain_wait(end, data, sizeof data) == 2 && memcmp(data, "ab", 2) == 0);
+	REFUSES(vchan_page_drain_wait(end, data, sizeof data), EPIPE);
+	clear(&line);
+	lay(&line, zeros, 11, 12, 0);
 
 	/* a callback that makes a call of the end that is inside one */
 	nested = end;
-	end->take_event = call_again;
+	end->with.take_event = call_again;
 	CHECK(vchan_page_take_event(end) == 1);
-	end->take_event = NULL;
+	end->with.take_event = NULL;
 	CHECK(vchan_page_take_event(end) == 0);
 
+	/* a peer that can't be signalled: what was moved stays so, and the end is between two calls */
+	end->with.notify = notify_fails;
+	line.head[SRV_NOTIFY] = BIT_WRITTEN;
+	REFUSES(vchan_page_write(end, "abc", 3), EIO);
+	CHECK(line.head[SRV_NOTIFY] == 0 && index_at(&line, RIGHT_PROD) == 3 && vchan_page_write(end, "d", 1) == 1);
+	end->with.notify = notify;
+	CHECK(vchan_page_read(&line.end[1], data, sizeof data) == 4 && memcmp(data, "abcd", 4) == 0);
+
+	/* a live byte that no honest peer stores */
+	for (int live = 255; live >= 0; live--) {
+		line.head[CLI_LIVE] = line.head[SRV_LIVE] = (uint8_t)live;
+		CHECK(vchan_page_is_open(end) == (live == 2 ? 2 : live != 0) && vchan_page_is_open(&line.end[1]) == (live != 0));
+	}
+	line.head[CLI_LIVE] = line.head[SRV_LIVE] = 1;
+
 	/* a client that says it has other rings than its page */
-	CHECK(vchan_page_open(&page, VCHAN_CLIENT, VCHAN_FRESH, line.head, line.ring[0], line.ring[1], 11, 13, 0, 0, notify, NULL, NULL, &line.ear[1]) == 0);
+	other = setup_of(&line, 1, 0);
+	other.right_order = 13, other.right = zeros(8192);
+	CHECK(vchan_page_open(&page, &other) == 0);
+	line.head[SRV_NOTIFY] = 0;
 	REFUSES(vchan_page_connect(&page), EPROTO);
+	CHECK(line.head[SRV_NOTIFY] == 0 && vchan_page_take_event(end) == 0);
+	free(other.right);
 
 	/* a server that stays open without a client, and one that doesn't */
 	CHECK(vchan_page_close(&line.end[1]) == 0);
 	REFUSES(vchan_page_close(&line.end[1]), ENOTCONN);
 	REFUSES(vchan_page_write(end, &byte, 1), EPIPE);
-	end->persists = true;
+	end->with.persists = true;
 	CHECK(vchan_page_is_open(end) == 1 && vchan_page_write(end, &byte, 1) == 1 && vchan_page_read(end, &byte, 1) == 0);
 	clear(&line);
 }

@@ -3,11 +3,15 @@
  * and calls no others. `run preload` runs it as it is and with libvchan_proved.so before the library. Both must print
  * the same: a sum over each answer, each byte that was read, the head of the page and the signals after each call.
  */
+#define _GNU_SOURCE
 #include "../peer/stand_ins.h"
 #include <pthread.h>
 #include <stdio.h>
 #include <stdlib.h>
 #include <string.h>
+#include <sys/mman.h>
+#include <sys/wait.h>
+#include <unistd.h>
 
 static const int orders[][2] = { { 10, 11 }, { 11, 10 }, { 11, 12 }, { 12, 11 }, { 12, 12 }, { 13, 14 }, { 16, 12 }, { 20, 20 } };
 #define PAIRS (sizeof orders / sizeof *orders)
@@ -138,13 +142,63 @@ static void in_threads(int left, int right, size_t total)
 	}
 }
 
+/* A page that forked processes share, as a granted one is. */
+static void share(void *start, size_t size)
+{
+	CHECK(mmap(start, size, PROT_READ | PROT_WRITE, MAP_SHARED | MAP_ANONYMOUS | MAP_FIXED, -1, 0) == start);
+}
+
+/* An end that a process uses, then one that it forks, then it again. */
+static void in_processes(int left, int right)
+{
+	struct libxenvchan *end[2];
+	char got[64];
+	int status, count;
+	pid_t child;
+
+	open_pair(end, left, right, 0);
+	CHECK(libxenvchan_write(end[CLIENT], "AAAAA", 5) == 5);
+	fflush(stdout);
+	if (!(child = fork()))
+		_exit(libxenvchan_write(end[CLIENT], "BBBBB", 5) != 5);
+	CHECK(waitpid(child, &status, 0) == child && status == 0);
+	CHECK(libxenvchan_write(end[CLIENT], "CC", 2) == 2);
+	if (!(child = fork()))
+		_exit(libxenvchan_read(end[SERVER], got, 3) != 3 || memcmp(got, "AAA", 3) != 0);
+	CHECK(waitpid(child, &status, 0) == child);
+	count = libxenvchan_read(end[SERVER], got, sizeof got);
+	printf("forked: %d, %.*s\n", status, count, got);
+	libxenvchan_close(end[CLIENT]);
+	libxenvchan_close(end[SERVER]);
+}
+
+/* A server that is told late to stay open for the next client. */
+static void persistent(int left, int right)
+{
+	struct libxenvchan *end[2];
+	int before, after;
+
+	open_pair(end, left, right, 0);
+	CHECK(libxenvchan_write(end[SERVER], "a", 1) == 1);
+	libxenvchan_close(end[CLIENT]);
+	before = libxenvchan_write(end[SERVER], "b", 1);
+	end[SERVER]->server_persist = 1;
+	after = libxenvchan_write(end[SERVER], "c", 1);
+	printf("persistent: %d, %d, %d\n", before, after, libxenvchan_is_open(end[SERVER]));
+	libxenvchan_close(end[SERVER]);
+}
+
 int main(void)
 {
 	begin_stand_ins(true);
+	share(&page, sizeof page);
+	share(granted, sizeof granted);
 	for (size_t i = 0; i < PAIRS; i++) {
 		seed = 88172645463325252ull + i;
 		printf("orders %d %d: %016lx\n", orders[i][0], orders[i][1], by_turns(orders[i][0], orders[i][1], orders[i][0] > 16 ? 300 : 5000));
 		in_threads(orders[i][0], orders[i][1], (size_t)1 << 19);
+		in_processes(orders[i][0], orders[i][1]);
+		persistent(orders[i][0], orders[i][1]);
 		fflush(stdout);
 	}
 	check_reached();

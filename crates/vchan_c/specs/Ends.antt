@@ -1,11 +1,13 @@
 -- An end that a C caller holds as 32 bytes of numbers, and what its three calls do.
-use Rattle.std.specs.Prelude.{◌≡◌, ◌≢◌, ◌≤◌, ◌==◌, if◌then◌else◌, ℕ, Option, Some, None}
+use Rattle.std.specs.Prelude.{◌≡◌, ◌≢◌, ◌≤◌, ◌==◌, if◌then◌else◌, ℕ, Bool, true, false, Option, Some, None}
+use Rattle.ring_words.specs.declared.page.Role.{Role}
+use Rattle.ring_words.specs.declared.page.Role.TheVariants.{Server, Client}
 use Rattle.ring_words.specs.Choice.{AreBadOrders}
 use Rattle.ring_words.specs.Rings.{number_of}
 use Rattle.vchan_protocol.specs.declared.call.Call.{Call}
 use Rattle.vchan_protocol.specs.declared.call.Call.TheVariants.{Write, Send, Read, Recv, Drain, DataReady, BufferSpace, Connect, Close, TakeEvent}
 use Rattle.vchan_protocol.specs.Table.Plan.{Plan}
-use Rattle.vchan_protocol.specs.Table.Ends.{Standing}
+use Rattle.vchan_protocol.specs.Table.Ends.{Standing, peer_live}
 use Rattle.vchan_protocol.specs.Table.Calls.{plan_of, payload_of, loaded_most}
 use Rattle.vchan_core.specs.declared.machine.Machine.{Machine}
 use Rattle.vchan_core.specs.declared.kept.Kept.{Kept}
@@ -17,7 +19,7 @@ use Rattle.vchan_core.specs.OneMachine.Keeping.{kept_of, IsShort, role_number, s
 use Rattle.vchan_c.specs.declared.stretch.Stretch.{Stretch}
 use Rattle.vchan_c.specs.declared.step.Step.{Step}
 use Rattle.vchan_c.specs.Stretches.{IsStretch, MovesWithin, plan_behind}
-use Rattle.vchan_c.specs.Steps.{step_of}
+use Rattle.vchan_c.specs.Steps.{offset_of, step_of}
 
 -- the call that a number and a length name
 abbrev pub call_told : ℕ → ℕ → Option Call
@@ -52,6 +54,17 @@ answer_to_call m (Some call) = number_of_refused (refusal_of m call)
 
 abbrev pub answer_to : Machine → ℕ → ℕ → ℕ
 answer_to m number len = answer_to_call m (call_told number len)
+
+-- where the byte lies that tells an end whether its peer is there
+abbrev pub live_offset_of : Role → ℕ
+live_offset_of role = offset_of (peer_live role)
+
+-- What that byte tells: 0 a peer that has closed, 1 one that is there, 2 a client that may still come. A server that
+-- persists always has a peer. Source: libxenvchan_is_open in Xen's tools/libs/vchan/io.c.
+abbrev pub open_number : Role → Bool → ℕ → ℕ
+open_number Server true live = 1
+open_number Server false live = if live == 0 then 0 else (if live == 2 then 2 else 1)
+open_number Client persists live = if live == 0 then 0 else 1
 
 -- the numbers are those of an end: a role, a state that it may be in, and two orders that a page may have
 pub record AreEndNumbers (role state left right : ℕ) : Type 0 where

@@ -2,12 +2,16 @@
 use Rattle.std.specs.Prelude.{◌≡◌, ℕ, Bool, true, false, Option, Some, None, All}
 use Rattle.ring_words.specs.declared.page.Ring.{Ring}
 use Rattle.ring_words.specs.declared.page.Ring.TheVariants.{Left, Right}
+use Rattle.ring_words.specs.declared.page.Role.TheVariants.{Client}
 use Rattle.ring_words.specs.declared.page.WordName.{WordName}
 use Rattle.ring_words.specs.declared.page.WordName.TheVariants.{LeftCons, LeftProd, RightCons, RightProd, LeftOrder, RightOrder, CliLive, SrvLive, CliNotify, SrvNotify, SrvPending, CliPending, SrvGone, CliGone, RingByte}
 use Rattle.ring_words.specs.Image.{Field, fields}
 use Rattle.vchan_protocol.specs.declared.op.Op.{Op}
 use Rattle.vchan_protocol.specs.declared.op.Op.TheVariants.{Load, LoadByte, Store, StoreByte, Or, And, Swap, Nothing}
-use Rattle.vchan_protocol.specs.Table.Ends.{mask}
+use Rattle.vchan_protocol.specs.declared.call.Bit.TheVariants.{Written}
+use Rattle.vchan_protocol.specs.declared.call.Answer.{Answer}
+use Rattle.vchan_protocol.specs.declared.call.Answer.TheVariants.{Connected}
+use Rattle.vchan_protocol.specs.Table.Ends.{ask_word, mask}
 use Rattle.vchan_core.specs.OneMachine.Keeping.{numbers_of_answer}
 use Rattle.vchan_c.specs.declared.stretch.Bytes.{Bytes}
 use Rattle.vchan_c.specs.declared.stretch.Moves.{Moves}
@@ -98,8 +102,14 @@ numbers_of_event (Store word value) = (5, 0, 0, 0)
 numbers_of_event (StoreByte word at) = (5, 0, 0, 0)
 numbers_of_event Nothing = (5, 0, 0, 0)
 
+-- What comes with an answer. Behind its connect a client greets: it sets the bit that asks for signals for data, and
+-- signals the server. Source: libxenvchan_client_init in Xen's tools/libs/vchan/init.c; the table's Connect does neither.
+abbrev pub numbers_of_answered : Answer → ℕ × ℕ × ℕ × ℕ
+numbers_of_answered Connected = (6, offset_of (ask_word Client), width_of (ask_word Client), mask Written)
+numbers_of_answered _ = (0, 0, 0, 0)
+
 abbrev pub numbers_of_last : Last → ℕ × ℕ × ℕ × ℕ
-numbers_of_last (Answered answer) = (0, 0, 0, 0)
+numbers_of_last (Answered answer) = numbers_of_answered answer
 numbers_of_last (Event op look) = numbers_of_event op
 numbers_of_last (Notify last) = (3, offset_of last.word, width_of last.word, mask last.bit)
 numbers_of_last Further = (5, 0, 0, 0)

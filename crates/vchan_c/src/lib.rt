@@ -11,30 +11,31 @@ mod numbers;
 mod step;
 mod stretch;
 
-ghost use Rattle.std.specs.Prelude.{◌≡◌, ◌≢◌, ◌↔◌, IsTrue, true, false};
-ghost use Rattle.vchan_core.specs.OneMachine.Keeping.{kept_of, IsShort};
+ghost use Rattle.std.specs.Prelude.{◌≡◌, ◌≢◌, ◌<◌, ◌↔◌, IsTrue, true, false};
+ghost use Rattle.ring_words.specs.declared.page.Role.{Role};
+ghost use Rattle.vchan_core.specs.OneMachine.Keeping.{kept_of, IsShort, role_number};
 ghost use Rattle.vchan_core.specs.OneMachine.Phases.{IsIdle};
 ghost use Rattle.vchan_core.specs.declared.machine.Machine.{Machine};
-ghost use Rattle.vchan_c.specs.Ends.{AreEndNumbers, IsNoEnd, Made, Begins, Goes, answer_to};
+ghost use Rattle.vchan_c.specs.Ends.{AreEndNumbers, IsNoEnd, Made, Begins, Goes, answer_to, live_offset_of, open_number};
 
-use numbers::{call_of, end_of, refusal_number};
+use numbers::{call_of, end_of, live_offset, open_of, refusal_number};
 pub use step::Step;
 use stretch::{stretch_behind, stretch_of};
-use vchan_core::Kept;
+use vchan_core::{Kept, role_of};
 
 /// Makes an end between two calls, with its own two counts, in bytes modulo 2^32: `prod` of the ring
 /// that it writes, and `cons` of the one that it reads. The role is 0 for a server and 1 for a
 /// client. The state is 0 for a client that hasn't connected, 1 for an open end and 2 for a shut one.
 ///
 /// Returns false, and changes nothing, if the numbers are those of no end: an unknown role or state, a
-/// server that isn't connected, or two orders that a page can't have.
+/// server that isn't connected, or two orders that a page can't have. No number is cut, so that 257 is no role.
 #[unsafe(no_mangle)]
 pub extern "C" fn vchan_end_init(
     end: &mut Kept,
-    role: u8,
-    state: u8,
-    left_order: u16,
-    right_order: u16,
+    role: u32,
+    state: u32,
+    left_order: u32,
+    right_order: u32,
     prod: u32,
     cons: u32,
 ) -> bool
@@ -173,4 +174,34 @@ fn took<const COPY: u8>(end: &mut Kept, kept: Kept, value: u64, look: u64, step:
     *step = Step::of(stretch_behind::<COPY>(&mut machine, value, look));
     *end = machine.kept();
     true
+}
+
+/// Returns the offset of the byte that tells an end of this role whether its peer is there, in Xen's
+/// `struct vchan_interface`. Returns 0 for a number that is no role.
+#[unsafe(no_mangle)]
+pub extern "C" fn vchan_end_live(role: u8) -> u16
+    ensures offset { (known : Role) → role_number known ≡ role → result ≡ live_offset_of known }
+    ensures none { 1 < role → result ≡ 0 }
+{
+    match role_of(role) {
+        Some(role) => live_offset(role),
+        None => 0,
+    }
+}
+
+/// Returns what that byte, which took this value, tells of the peer: 0 if it has closed, 1 if it is there, and 2
+/// for a server whose client may still come. A server that `persists`, for one client after another, always has a
+/// peer. Returns 0 for a number that is no role.
+///
+/// The source is libxenvchan's `is_open`, which answers the byte as it is: its calls go on at each that isn't 0,
+/// and an honest end stores no other than 0, 1 and 2.
+#[unsafe(no_mangle)]
+pub extern "C" fn vchan_end_is_open(role: u8, persists: bool, live: u8) -> u8
+    ensures answer { (known : Role) → role_number known ≡ role → result ≡ open_number known persists live }
+    ensures none { 1 < role → result ≡ 0 }
+{
+    match role_of(role) {
+        Some(role) => open_of(role, persists, live),
+        None => 0,
+    }
 }

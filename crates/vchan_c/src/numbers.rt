@@ -1,17 +1,19 @@
 //! What the numbers of a C caller stand for.
 ghost use Rattle.std.specs.Prelude.{◌≡◌, ◌↔◌, IfSome, IsSome};
 ghost use Rattle.vchan_core.specs.OneMachine.Phases.{standing, IsIdle};
-ghost use Rattle.vchan_c.specs.Ends.{call_told, number_of_refusal, AreEndNumbers, IsStanding};
+ghost use Rattle.vchan_c.specs.Ends.{call_told, number_of_refusal, AreEndNumbers, IsStanding, live_offset_of, open_number};
 
+use crate::step::offset_and_width;
 use ring_words::{Role, check_orders};
+use vchan_core::words::peer_live;
 use vchan_core::{Call, EndState, Machine, Refusal, role_of, state_of};
 
 /// Returns an end between two calls, if the numbers are those of one.
 pub(crate) fn end_of(
-    role: u8,
-    state: u8,
-    left_order: u16,
-    right_order: u16,
+    role: u32,
+    state: u32,
+    left_order: u32,
+    right_order: u32,
     prod: u32,
     cons: u32,
 ) -> Option<Machine>
@@ -19,9 +21,12 @@ pub(crate) fn end_of(
     ensures standing { IfSome result (λ machine. IsStanding role state left_order right_order prod cons (standing machine)) }
     ensures idle { IfSome result (λ machine. IsIdle machine) }
 {
-    let role = role_of(role)?;
-    let state = state_of(state)?;
-    let Ok(orders) = check_orders(left_order, right_order) else {
+    let role = role_of(u8::try_from(role).ok()?)?;
+    let state = state_of(u8::try_from(state).ok()?)?;
+    let (Ok(left), Ok(right)) = (u16::try_from(left_order), u16::try_from(right_order)) else {
+        return None;
+    };
+    let Ok(orders) = check_orders(left, right) else {
         return None;
     };
     match (role, state) {
@@ -59,5 +64,24 @@ pub(crate) fn refusal_number(refusal: Refusal) -> u8
         Refusal::Unconnected => 3,
         Refusal::Connected => 4,
         Refusal::NoBytes => 5,
+    }
+}
+
+/// Returns the offset of the live byte of an end's peer.
+pub(crate) fn live_offset(role: Role) -> u16
+    ensures { result ≡ live_offset_of role }
+{
+    offset_and_width(peer_live(role)).0
+}
+
+/// Returns what the live byte of an end's peer tells.
+pub(crate) fn open_of(role: Role, persists: bool, live: u8) -> u8
+    ensures { result ≡ open_number role persists live }
+{
+    match (role, live) {
+        (Role::Server, _) if persists => 1,
+        (_, 0) => 0,
+        (Role::Server, 2) => 2,
+        _ => 1,
     }
 }

@@ -1,17 +1,18 @@
 //! A step as plain numbers.
 ghost use Rattle.std.specs.Prelude.{◌≡◌};
 ghost use Rattle.vchan_core.specs.OneMachine.Keeping.{numbers_of_answer};
-ghost use Rattle.vchan_c.specs.Steps.{offset_of, width_of, AreXenFields, ring_number as ring_number_of, moves_number, bytes_in, store_offset, store_width, store_value, numbers_of_event, numbers_of_last, look_offset, look_width, answer_in, step_of};
+ghost use Rattle.vchan_c.specs.Steps.{offset_of, width_of, AreXenFields, ring_number as ring_number_of, moves_number, bytes_in, store_offset, store_width, store_value, numbers_of_event, numbers_of_answered, numbers_of_last, look_offset, look_width, answer_in, step_of};
 
 use crate::stretch::{Bytes, Last, Moves, Stored, Stretch};
-use ring_words::{Ring, WordName};
-use vchan_core::words::mask;
-use vchan_core::{AnswerNumbers, Op};
+use ring_words::{Ring, Role, WordName};
+use vchan_core::words::{ask_word, mask};
+use vchan_core::{Answer, AnswerNumbers, Bit, Op};
 
 /// What a caller does next, in this order: it moves bytes, stores a number, signals its peer, and
 /// then makes the event whose value is awaited, or has the answer of its call. If there is a word to look
 /// at, it is loaded after the awaited one, unless that one was 0. A notify clears the bits in its word, at
-/// once, and signals the peer if the word had them.
+/// once, and signals the peer if the word had them. A greeting sets the bits in its word, at once, and then signals
+/// the peer: so a client begins that has connected, as in libxenvchan's client init.
 ///
 /// A word is given by its offset in Xen's `struct vchan_interface` and its width in bytes. A word that
 /// Xen's page doesn't have has the width 0: nothing is done there, and a load or a swap takes what the
@@ -20,9 +21,10 @@ use vchan_core::{AnswerNumbers, Op};
 #[derive(Clone, Copy, Debug, PartialEq, Eq)]
 pub struct Step {
     /// What is awaited: 0 nothing, and the answer is in this step; 1 a load; 2 an or; 3 nothing, the answer is
-    /// in this step, and the call ends with a notify; 4 a swap; 5 nothing, and the call goes on.
+    /// in this step, and the call ends with a notify; 4 a swap; 5 nothing, and the call goes on; 6 nothing, the answer
+    /// is in this step, and the call ends with a greeting.
     pub kind: u8,
-    /// The width of the awaited word, or of the notify's, in bytes.
+    /// The width of the awaited word, or of the notify's or the greeting's, in bytes.
     pub width: u8,
     /// The offset of that word.
     pub offset: u16,
@@ -58,13 +60,13 @@ pub struct Step {
     pub spare: u16,
     /// The number to store.
     pub stored: u64,
-    /// The bits of an or, those that a notify clears, or what a swap stores.
+    /// The bits of an or, those that a notify clears or a greeting sets, or what a swap stores.
     pub bits: u64,
 }
 
 /// Returns where a word lies in the page, and how wide it is there.
 #[inline(always)]
-fn offset_and_width(word: WordName) -> (u16, u8)
+pub(crate) fn offset_and_width(word: WordName) -> (u16, u8)
     ensures offset { result.0 ≡ offset_of word }
     ensures width { result.1 ≡ width_of word }
     ensures fields { AreXenFields }
@@ -136,7 +138,7 @@ fn stored(store: &Option<Stored>) -> (u16, u8, u64)
     }
 }
 
-/// What is awaited, or the notify: its kind, the offset and the width of its word, and its number.
+/// What is awaited, the notify or the greeting: its kind, the offset and the width of its word, and its number.
 #[derive(Clone, Copy)]
 struct Awaited {
     kind: u8,
@@ -170,6 +172,20 @@ impl Awaited {
             offset,
             width,
             bits,
+        }
+    }
+
+    /// Returns what comes with an answer: of a connect the greeting.
+    #[inline(always)]
+    fn with(answer: Answer) -> Awaited
+        ensures kind { result.kind ≡ (numbers_of_answered answer).0 }
+        ensures offset { result.offset ≡ (numbers_of_answered answer).1 }
+        ensures width { result.width ≡ (numbers_of_answered answer).2 }
+        ensures bits { result.bits ≡ (numbers_of_answered answer).3 }
+    {
+        match answer {
+            Answer::Connected => Awaited::at(6, ask_word(Role::Client), mask(Bit::Written)),
+            _ => Awaited::NOTHING,
         }
     }
 
@@ -208,7 +224,7 @@ fn looked(last: Last) -> (u16, u8)
     }
 }
 
-/// Returns what comes after a stretch: what is awaited, or the notify, and the answer.
+/// Returns what comes after a stretch: what is awaited, the notify or the greeting, and the answer.
 #[inline(always)]
 fn ended(last: Last) -> (Awaited, AnswerNumbers)
     ensures kind { result.0.kind ≡ (numbers_of_last last).0 }
@@ -223,7 +239,7 @@ fn ended(last: Last) -> (Awaited, AnswerNumbers)
         second: 0,
     };
     match last {
-        Last::Answer(answer) => (Awaited::NOTHING, AnswerNumbers::of(answer)),
+        Last::Answer(answer) => (Awaited::with(answer), AnswerNumbers::of(answer)),
         Last::Event { op, .. } => (Awaited::of(op), NONE),
         Last::Notify(last) => (
             Awaited::at(3, last.word, mask(last.bit)),
