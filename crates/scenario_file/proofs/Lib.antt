@@ -7,5 +7,6 @@ pub mod TotalLaws
 pub mod NumberLaws
 pub mod ReadLaws
 pub mod ActLaws
+pub mod KeyLaws
 pub mod FileLaws
 pub mod Rows

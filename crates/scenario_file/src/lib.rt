@@ -13,6 +13,7 @@ mod domains;
 mod error;
 mod file;
 mod generator;
+mod key_text;
 mod keys;
 mod laws;
 mod line;
