@@ -24,6 +24,7 @@ mod path;
 mod place;
 mod rings;
 mod scenario;
+mod spelled;
 mod totals;
 mod without;
 
@@ -38,4 +39,5 @@ pub use outcomes::honest_lines;
 pub use path::{Path, push_fault_line};
 pub use scenario::{CallPlan, Domain, Scenario};
 pub use script_words::next_number;
+pub use spelled::SpelledBytes;
 pub use without::without_hostile;
