@@ -21,7 +21,7 @@ use Rattle.hostile_task.specs.declared.pages.Pages.{Pages}
 use Rattle.hostile_task.specs.declared.progress.Progress.{Progress}
 use Rattle.hostile_task.specs.Plan.{plan_of, AreApart}
 use Rattle.hostile_task.specs.Pages.{after_events, AreAfter, places_in}
-use Rattle.hostile_task.specs.Saying.{voice_at, after_turn, held_words, IsReady, AreWords, SaysSoFar, SaysOn, SaysOrSaid, side_after}
+use Rattle.hostile_task.specs.Saying.{voice_at, after_turn, IsReady, AreWords, SaysSoFar, SaysOn, SaysOrSaid, side_after}
 use Rattle.hostile_task.specs.UnderWay.{IsTrailSoFar, IsControlTrail, IsPageSoFar, EachPage, IsControl, IsPayload, HasBegun, IsUnderWay, most_turns}
 use Rattle.hostile_task.proofs.PageLaws.{are_after_none, are_same_after}
 use Rattle.hostile_task.proofs.TrailLaws.{page_stores, page_rests, page_with, payload_stays, payload_passes, control_says, control_said, says_here}
@@ -109,7 +109,7 @@ control_after plan p next page end more control so_far is trail =
 -- one turn of saying
 pub way_says : (domain : HostileDomain) (act : Act) (bytes : List ℕ) (pages : Pages) (end : SeatedSide) (p mid : Progress) (over : Bool) (before spelled : List ℕ) → IsUnderWay domain pages p before → slice_get domain.acts p.acts ≡ Some act → p.acts < length domain.acts
     → words_of act ≡ Some bytes → IsReady act spelled
-    → ((v : Voice) (events : List PastEvent) → v.orders ≡ pages.control.end.side.orders → SaysSoFar v (held_words act spelled) p events → SaysOn v (held_words act spelled) events over mid pages.control.end end)
+    → ((v : Voice) (events : List PastEvent) → v.orders ≡ pages.control.end.side.orders → SaysSoFar v spelled p events → SaysOn v spelled events over mid pages.control.end end)
     → mid.acts ≡ p.acts → (over ≡ false → (mid.turns ≡ p.turns + 1) × (mid.turns < 1024)) → IsUnderWay domain (with_control pages end) (after_turn over mid) spelled
 way_says domain act bytes pages end p mid over before spelled way at within words ready says acts turns =
     by_over over refl
@@ -120,8 +120,8 @@ way_says domain act bytes pages end p mid over before spelled way at within word
     t : IsControlTrail plan pages.control.place p pages.control.end.side.trail
     t = control_trail plan p pages.control way.control way.so_far.0
 
-    held : held_words act spelled ≡ bytes
-    held = subst (λ (w : Option (List ℕ)). AreWords w (held_words act spelled)) words ready
+    held : spelled ≡ bytes
+    held = subst (λ (w : Option (List ℕ)). AreWords w spelled) words ready
 
     orders : t.voice.orders ≡ pages.control.end.side.orders
     orders = t.orders ∙ sym (control_orders pages.control.place way.control) ∙ sym way.so_far.0.orders
@@ -130,10 +130,10 @@ way_says domain act bytes pages end p mid over before spelled way at within word
         control_orders (Control d) tells = refl
         control_orders (Payload from to port) never = absurd never
 
-    so_far : SaysSoFar t.voice (held_words act spelled) p t.part
+    so_far : SaysSoFar t.voice spelled p t.part
     so_far = subst (λ (bs : List ℕ). SaysSoFar t.voice bs p t.part) (sym held) (says_here plan pages.control.place act bytes p pages.control.end.side.trail t at words)
 
-    turn : SaysOn t.voice (held_words act spelled) t.part over mid pages.control.end end
+    turn : SaysOn t.voice spelled t.part over mid pages.control.end end
     turn = says t.voice t.part orders so_far
 
     trail : List PastEvent
@@ -149,7 +149,7 @@ way_says domain act bytes pages end p mid over before spelled way at within word
     by_over true is =
         let next : Progress = record { acts = mid.acts + 1; turns = 0; said = 0; own = mid.own } in
         let one : next.acts ≡ p.acts + 1 = ap (λ (n : ℕ). n + 1) acts in
-        let said = subst (λ (o : Bool). SaysOrSaid o t.voice (held_words act spelled) mid (t.part ++ turn.more)) is turn.so_far in
+        let said = subst (λ (o : Bool). SaysOrSaid o t.voice spelled mid (t.part ++ turn.more)) is turn.so_far in
         record {
           acts = omega (arith, one, within);
           begun = not_begun (slice_get domain.acts next.acts) next spelled refl;
@@ -163,7 +163,7 @@ way_says domain act bytes pages end p mid over before spelled way at within word
               (λ q payload sofar. payload_passes plan act bytes p next q payload sofar at words one);
         }
     by_over false is =
-        let says_on = subst (λ (o : Bool). SaysOrSaid o t.voice (held_words act spelled) mid (t.part ++ turn.more)) is turn.so_far in
+        let says_on = subst (λ (o : Bool). SaysOrSaid o t.voice spelled mid (t.part ++ turn.more)) is turn.so_far in
         record {
           acts = omega (arith, acts, within);
           begun = subst (λ (o : Option Act). HasBegun o mid spelled) (sym (ap (λ (n : ℕ). slice_get domain.acts n) acts ∙ at))

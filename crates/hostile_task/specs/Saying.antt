@@ -5,17 +5,11 @@ use Rattle.vchan_protocol.specs.declared.op.PastEvent.{PastEvent}
 use Rattle.vchan_rule.specs.Seated.{SeatedSide}
 use Rattle.hostile_seat.specs.Hostile.{strays_along}
 use Rattle.scenario_file.specs.declared.acts.Act.{Act}
-use Rattle.scenario_file.specs.declared.acts.Act.TheVariants.{Say}
 use Rattle.task_duties.specs.Hostile.Saying.{Voice, said, IsSaying}
 use Rattle.task_duties.specs.Hostile.Trail.{words_of}
 use Rattle.hostile_task.specs.declared.progress.Progress.{Progress}
 
 -- ---- what is sent
-
--- the words that are held for an act: in the act itself, or spelled out beside it
-abbrev pub held_words : Act → List ℕ → List ℕ
-held_words (Say bytes) spelled = bytes
-held_words act spelled = spelled
 
 -- these are the words of an act that sends some
 abbrev pub AreWords : Option (List ℕ) → List ℕ → Type 0
@@ -24,7 +18,7 @@ AreWords None held = Unit {0}
 
 -- the words of an act are ready to be sent
 abbrev pub IsReady : Act → List ℕ → Type 0
-IsReady act spelled = AreWords (words_of act) (held_words act spelled)
+IsReady act spelled = AreWords (words_of act) spelled
 
 -- ---- how far it is
 

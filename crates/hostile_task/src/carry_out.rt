@@ -8,7 +8,7 @@ use crate::domain::HostileDomain;
 use crate::pages::Pages;
 use crate::progress::Progress;
 use crate::say::say;
-use crate::spell::{held_words, prepare};
+use crate::spell::prepare;
 use scenario_file::Act;
 use std::alloc::Global;
 use vchan_io::Memory;
@@ -18,7 +18,7 @@ use vchan_io::Memory;
 ///
 /// # Errors
 ///
-/// `Memory` if memory runs out for the bytes of a trigger, a greeting or a termination; no event
+/// `Memory` if memory runs out for the bytes that an act sends; no event
 /// was made then.
 pub fn carry_out(
     alloc: Global,
@@ -57,7 +57,7 @@ pub fn carry_out(
         }
         _ => {
             prepare(alloc, act, progress.turns, spelled)?;
-            let over = say(&mut pages.control.end, progress, held_words(act, spelled));
+            let over = say(&mut pages.control.end, progress, spelled);
             progress.end_turn(over);
             Ok(())
         }

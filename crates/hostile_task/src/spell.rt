@@ -4,7 +4,7 @@ ghost use Rattle.qrexec_frame.specs.Texts.{FitsText};
 ghost use Rattle.scenario_file.specs.Acts.{ActFits};
 ghost use Rattle.task_duties.specs.Places.{numbers};
 ghost use Rattle.task_duties.specs.Hostile.Trail.{numbered_trigger};
-ghost use Rattle.hostile_task.specs.Saying.{held_words, IsReady};
+ghost use Rattle.hostile_task.specs.Saying.{IsReady};
 ghost use Rattle.std.specs.List.{flat_map};
 
 use itoa::Buffer;
@@ -15,17 +15,6 @@ use vchan_io::Memory;
 
 /// The version in the greeting of a hostile domain.
 const VERSION: u32 = 3;
-
-/// Returns the bytes that an act sends, if it sends some: those in the act itself, or those that
-/// were spelled out.
-pub fn held_words<'a>(act: &'a Act, spelled: &'a [u8]) -> &'a [u8]
-    ensures { result.now ≡ held_words act.now spelled.now }
-{
-    match act {
-        Act::Say { bytes } => bytes.slice(),
-        _ => spelled,
-    }
-}
 
 /// Makes the bytes that an act sends ready, before its first turn.
 ///
@@ -44,13 +33,14 @@ pub fn prepare(alloc: Global, act: &Act, turns: u32, spelled: &mut Vec<u8>) -> R
     spell(alloc, act, spelled)
 }
 
-// Spells out the bytes that an act sends, if it doesn't hold them itself.
+// Spells out the bytes that an act sends.
 fn spell(alloc: Global, act: &Act, spelled: &mut Vec<u8>) -> Result<(), Memory>
     requires { ActFits act.now }
     ensures { OnOk result (IsReady act.now spelled.new.items) }
 {
     spelled.clear();
     match act {
+        Act::Say { bytes } => bytes.push(spelled),
         Act::Hello => {
             let message = Message::Hello { version: VERSION };
             let encoded = encode(&message, spelled);

@@ -7,5 +7,7 @@ pub mod TotalLaws
 pub mod NumberLaws
 pub mod ReadLaws
 pub mod ActLaws
+pub mod SpelledLaws
+pub mod KeyLaws
 pub mod FileLaws
 pub mod Rows

@@ -8,6 +8,7 @@ use Rattle.scenario_file.specs.declared.error.ScenarioKind.{ScenarioKind}
 use Rattle.scenario_file.specs.declared.error.ScenarioKind.TheVariants.{UnknownKey, MissingKey, WrongType, BadNumber}
 use Rattle.scenario_file.specs.declared.place.Section.{Section}
 use Rattle.scenario_file.specs.declared.place.Section.TheVariants.{Top, Rings, Domain, Call}
+use Rattle.scenario_file.specs.KeyTexts.{shown_key}
 
 -- a failed check: its kind, and the path of what it looked at
 abbrev pub Fault : Type 0
@@ -28,7 +29,7 @@ section_path (Call number) = codes "call[" ++ decimal number ++ codes "]."
 
 -- the path of a key
 abbrev pub path_of : Section → List ℕ → List ℕ
-path_of section key = section_path section ++ key
+path_of section key = section_path section ++ shown_key key
 
 -- the path of an item of a list
 abbrev pub item_path : Section → List ℕ → ℕ → List ℕ

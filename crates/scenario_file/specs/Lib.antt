@@ -3,6 +3,7 @@ pub mod Acts
 pub mod Scenario
 pub mod Lines
 pub mod Generator
+pub mod KeyTexts
 pub mod Checks
 pub mod ActWords
 pub mod Tables

@@ -9,9 +9,10 @@ ghost use Rattle.scenario_file.specs.ActWords.{act_of, act_of_words, alone, any_
 
 use crate::acts::{Act, ActPage};
 use crate::names::{is_name, is_service, text_of};
-use qrexec_frame::{Bytes, Text};
+use crate::spelled::SpelledBytes;
+use qrexec_frame::Text;
 use ring_words::{Ring, WordName, field_named};
-use script_words::{ByteError, WordsOfLine, bytes_of, parse_number, place_in};
+use script_words::{ByteError, WordsOfLine, parse_number, place_in};
 use std::alloc::Global;
 use vchan_io::Memory;
 
@@ -110,7 +111,7 @@ fn read_say(alloc: Global, words: WordsOfLine) -> Result<Act, ActError>
     let Some(word) = words.only() else {
         return Err(ActError::Bad);
     };
-    let bytes = Bytes::of(bytes_of(alloc, word)?);
+    let bytes = SpelledBytes::of(alloc, word)?;
     Ok(Act::Say { bytes })
 }
 

@@ -1,7 +1,8 @@
 //! What a hostile domain does.
 ghost use Rattle.std.specs.Prelude.{◌≡◌};
 
-use qrexec_frame::{Bytes, Text};
+use crate::spelled::SpelledBytes;
+use qrexec_frame::Text;
 use ring_words::WordName;
 use std::marker::Model;
 
@@ -27,7 +28,7 @@ pub enum Act {
     /// Sends some bytes on its control channel.
     Say {
         /// The bytes.
-        bytes: Bytes,
+        bytes: SpelledBytes,
     },
     /// Sends triggers, with the idents `h-1`, `h-2` and so on.
     Trigger {

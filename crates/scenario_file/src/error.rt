@@ -62,6 +62,7 @@ impl From<AllocError> for ScenarioError {
 }
 
 impl ScenarioError {
+    ghost use Rattle.scenario_file.specs.KeyTexts.{IsPrintable};
     ghost use Rattle.scenario_file.specs.KindWords.{error_line};
 
     /// Appends the line that tells a user of the error, without a line feed: for a failed check the
@@ -75,6 +76,7 @@ impl ScenarioError {
         ensures ok { OnOk result (out.new.items ≡ out.old.items ++ error_line self.now) }
         ensures err { OnErr result (out.new.items ≡ out.old.items) }
         ensures room { vec_len out.old + length (error_line self.now) ≤ vec_capacity out.old → IsOk result }
+        ensures printable { IsPrintable (error_line self.now) }
     {
         match self {
             ScenarioError::Bad { kind, at } => push_fault_line(out, *kind, at),

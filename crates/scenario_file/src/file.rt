@@ -54,6 +54,7 @@ fn read_document(alloc: Global, bytes: &[u8]) -> Result<Table, ScenarioError>
 }
 
 /// Returns the error of bytes that aren't TOML.
+#[tactic(auto, using(crate::proofs::KeyLaws::printable_file))]
 fn no_document(alloc: Global) -> ScenarioError
     ensures { IsNoDocument result }
 {

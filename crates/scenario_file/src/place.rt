@@ -3,6 +3,7 @@ ghost use Rattle.std.specs.Prelude.{◌≡◌, IfOk, string_bytes};
 ghost use Rattle.scenario_file.specs.Checks.{item_of, section_path};
 
 use crate::error::{ScenarioError, ScenarioKind};
+use crate::key_text::shown_key;
 use crate::path::Path;
 use std::alloc::{AllocError, AllocFailed, Global};
 
@@ -93,16 +94,25 @@ impl<'k> KeyPlace<'k> {
     }
 
     /// Returns the path of the place.
+    #[tactic(auto, using(crate::proofs::KeyLaws::printable_place))]
     fn path(self, alloc: Global) -> Result<Path, AllocError>
         ensures { IfOk result (λ path. path ≡ place_path self.entry) }
     {
+        let text = self.path_text(alloc)?;
+        Ok(Path { text })
+    }
+
+    /// Returns the text of that path.
+    fn path_text(self, alloc: Global) -> Result<String, AllocError>
+        ensures { IfOk result (λ text. string_bytes text ≡ place_path self.entry) }
+    {
         let front = section_path(alloc, self.section)?;
-        let key = self.key;
+        let key = shown_key(alloc, self.key)?;
         let text = match self.item {
             None => format!(in alloc; "{front}{key}")?,
             Some(number) => format!(in alloc; "{front}{key}[{number}]")?,
         };
-        Ok(Path { text })
+        Ok(text)
     }
 }
 

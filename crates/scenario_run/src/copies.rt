@@ -79,18 +79,18 @@ fn copy_of_list(alloc: Global, list: &[Act]) -> Result<Vec<Act>, AllocError>
 {
     let mut copies = Vec::with_capacity(alloc, list.len())?;
     for act in list {
-        copies.push(copy_of_act(alloc, act)?)?;
+        copies.push(copy_of_act(act)?)?;
     }
     Ok(copies)
 }
 
-fn copy_of_act(alloc: Global, act: &Act) -> Result<Act, AllocError>
+fn copy_of_act(act: &Act) -> Result<Act, AllocError>
     ensures { IfOk result (λ copy. copy ≡ act.now) }
 {
     match act {
         Act::Hello => Ok(Act::Hello),
         Act::Say { bytes } => Ok(Act::Say {
-            bytes: copy_of_bytes(alloc, bytes)?,
+            bytes: bytes.copy()?,
         }),
         Act::Trigger { to, service, count } => Ok(Act::Trigger {
             to: to.clone()?,

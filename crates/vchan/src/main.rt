@@ -10,14 +10,14 @@ use progress::Progress;
 use service_gate::Gate;
 use std::alloc::Global;
 use std::env;
-use std::io::IsTerminal;
+use std::io::{ErrorKind, IsTerminal};
 use std::process::ExitCode;
 use std::rt::Env;
 use std::sync::Wait;
 use std::thread::Threads;
 use std::time::Clock;
 use vchan_io::{Sink, Source, StdSink, StdSource};
-use vchan_top::{about_in, command_words, exit_number, leave_to_exit, tell};
+use vchan_top::{about_in, command_words, exit_number, leave_to_exit, report_status, tell};
 pub use vchan_top::{GREATEST_INPUT, Report, RunEnd, Status, top};
 
 fn main(rt: HostRuntime) -> ExitCode {
@@ -26,7 +26,7 @@ fn main(rt: HostRuntime) -> ExitCode {
     let mut err = StdSink::new(rt.stderr());
     let progress = Progress::new(&rt, rt.stderr().is_terminal());
     let status = match arguments(&rt, rt.alloc()) {
-        Some(arguments) => {
+        Ok(arguments) => {
             let words = command_words(arguments.as_slice());
             Some(carry_out(
                 &rt,
@@ -38,15 +38,36 @@ fn main(rt: HostRuntime) -> ExitCode {
                 &progress,
             ))
         }
-        None => None,
+        Err(NoWords::Memory) => Some(without_memory(&mut err)),
+        Err(NoWords::NotUtf8) => None,
     };
     progress.end();
     ExitCode::from(exit_number(status))
 }
 
-/// Returns all arguments, with the program's own name first, or `None` if one is no UTF-8 or memory runs out.
-fn arguments(rt: &(impl Env + AllocGlobal), alloc: Global) -> Option<Vec<String>> {
-    env::args(rt).ok()?.collect(alloc).ok()
+/// Why the program didn't get its words.
+#[derive(Clone, Copy)]
+enum NoWords {
+    /// A word isn't UTF-8.
+    NotUtf8,
+    /// Memory ran out.
+    Memory,
+}
+
+/// Returns all arguments, with the program's own name first.
+fn arguments(rt: &(impl Env + AllocGlobal), alloc: Global) -> Result<Vec<String>, NoWords> {
+    match env::args(rt) {
+        Ok(arguments) => arguments.collect(alloc).map_err(|_| NoWords::Memory),
+        Err(error) if error.kind() == ErrorKind::OutOfMemory => Err(NoWords::Memory),
+        Err(_) => Err(NoWords::NotUtf8),
+    }
+}
+
+/// Tells that memory ran out before there were words.
+fn without_memory<E: Sink>(err: &mut E) -> Status {
+    let status = Status::OutOfMemory;
+    let _ = report_status(&status, err);
+    status
 }
 
 /// Does what these words ask for. The workers of a run pass this gate.

@@ -23,7 +23,7 @@ code_of (BadInput wrong) = 5
 code_of WriteFault = 6
 code_of OutOfMemory = 7
 
--- the number with which the program ends: that of its status, or 8 if it didn't get its words
+-- the number with which the program ends: that of its status, or 8 if a word isn't UTF-8
 abbrev pub number_of_exit : Option Status → ℕ
 number_of_exit (Some status) = code_of status
 number_of_exit None = 8

@@ -8,7 +8,7 @@ ghost use Rattle.vchan_io.specs.Streams.{Appends};
 ghost use Rattle.vchan_top.specs.About.{about_of, Tells};
 ghost use Rattle.vchan_top.specs.Status.{status_line};
 
-use crate::entry::report;
+use crate::entry::report_status;
 use crate::status::Status;
 use vchan_io::{Sink, WriteFault, write_all};
 
@@ -54,7 +54,7 @@ pub fn tell<K: Sink, E: Sink>(text: &[u8], out: &mut K, err: &mut E) -> Status
         Ok(()) => Status::Done,
         Err(WriteFault) => Status::WriteFault,
     };
-    let _ = report(&status, err);
+    let _ = report_status(&status, err);
     status
 }
 

@@ -59,7 +59,7 @@ pub fn top<S: Source, K: Sink, E: Sink, G: Gate, R: Threads + Wait + Clock + Syn
     ensures line { (¬ Rose (E.faults err.old) (E.faults err.new)) → Appends (E.held err.old) (E.held err.new) (status_line result.status) }
 {
     let end = run(rt, alloc, words, source, out, gate);
-    let _ = report(&end.status, err);
+    let _ = report_status(&end.status, err);
     end
 }
 
@@ -121,7 +121,7 @@ fn read_input<S: Source>(
 }
 
 /// Writes to `err` how the run ended, if it didn't end well.
-pub(crate) fn report<E: Sink>(status: &Status, err: &mut E) -> Result<(), WriteFault>
+pub fn report_status<E: Sink>(status: &Status, err: &mut E) -> Result<(), WriteFault>
     ensures line { OnOk result (Appends (E.held err.old) (E.held err.new) (status_line status.now)) }
     ensures fault { OnErr result (Rose (E.faults err.old) (E.faults err.new)) }
 {

@@ -17,7 +17,7 @@ mod work;
 
 pub use about::{About, about_in, tell};
 pub use command::{Command, command_in, command_words};
-pub use entry::{GREATEST_INPUT, top};
+pub use entry::{GREATEST_INPUT, report_status, top};
 pub use run_end::RunEnd;
 pub use run_report::Report;
 pub use runs::{leave_to_exit, load_text};

@@ -78,16 +78,16 @@ impl Status {
     }
 }
 
-/// The number with which the program ends if it didn't get its words, as when one isn't UTF-8.
-const NO_WORDS: u8 = 8;
+/// The number with which the program ends if a word isn't UTF-8.
+const NOT_UTF8: u8 = 8;
 
-/// Returns the number with which the program ends: that of its status, or 8 if it has none because it didn't
-/// get its words.
+/// Returns the number with which the program ends: that of its status, or 8 if it has none because a word
+/// isn't UTF-8.
 pub fn exit_number(status: Option<Status>) -> u8
     ensures { result ≡ number_of_exit status }
 {
     match status {
         Some(status) => status.code(),
-        None => NO_WORDS,
+        None => NOT_UTF8,
     }
 }

@@ -13,7 +13,7 @@ use Rattle.hostile_task.specs.declared.pages.Pages.{Pages}
 use Rattle.hostile_task.specs.declared.progress.Progress.{Progress}
 use Rattle.hostile_task.specs.Plan.{plan_of}
 use Rattle.hostile_task.specs.Pages.{places_in, AreAfter}
-use Rattle.hostile_task.specs.Saying.{after_turn, held_words, SaysSoFar, SaysOn}
+use Rattle.hostile_task.specs.Saying.{after_turn, SaysSoFar, SaysOn}
 use Rattle.hostile_task.specs.UnderWay.{HaveRoles, IsUnderWay, IsPageSoFar, most_turns}
 use Rattle.hostile_task.specs.Turns.{TakesTurn}
 use Rattle.hostile_task.proofs.PageLaws.{are_same_after}
@@ -93,11 +93,10 @@ returns-in_ok-prepare-in_default-clause-way c =
     let pages = c.args.pages.now in
     let spelled = c.prepare.new.spelled.items in
     let words = says_some act c.in_default.not-Poke c.in_default.not-Scribble c.in_default.not-Signal c.in_default.not-Rest in
-    let held : c.held_words.result.now ≡ held_words act spelled = c.held_words.ensures ∙ ap (λ (bs : List ℕ). held_words act bs) c.deref.ensures.value in
     let Turn : List ℕ → Type 0 = λ bs. (v : Voice) (events : List PastEvent) → v.orders ≡ pages.control.end.side.orders → SaysSoFar v bs c.args.progress.now events → SaysOn v bs events c.say-over.result c.say-over.new.progress pages.control.end c.say-over.new.control in
     subst (λ (q : Progress). IsUnderWay c.args.domain.now (with_control pages c.say-over.new.control) q spelled) (sym c.end_turn-in_default.ensures)
     (way_says c.args.domain.now act words.0 pages c.say-over.new.control c.args.progress.now c.say-over.new.progress c.say-over.result c.args.spelled.now.items spelled c.requires.way at c.requires.left words.1
-    c.in_ok-prepare-in_default.ensures.ready (subst Turn held c.say-over.ensures.says) c.say-over.ensures.acts c.say-over.ensures.turns)
+    c.in_ok-prepare-in_default.ensures.ready (subst Turn c.deref.ensures.value c.say-over.ensures.says) c.say-over.ensures.acts c.say-over.ensures.turns)
 
 pub returns-in-Rest-clause-turn : goal.returns-in-Rest-clause-turn
 returns-in-Rest-clause-turn c =
