@@ -43,5 +43,5 @@ AgentsHaveAskedAll = (task : AgentState) (t : TellsSoFar task) (c : AgentControl
 
 -- no session begins, if nothing came on the control channel and each session that had begun took its turn
 abbrev pub NoSessionBegins : Type 0
-NoSessionBegins = (old new : AgentState) → TellsSoFar old → TellsSoFar new → new.plan ≡ old.plan → new.control.got ≡ old.control.got → length old.sessions ≡ length old.plan.places → length new.sessions ≡ length old.plan.places
+NoSessionBegins = (old new : AgentState) → TellsSoFar old → TellsSoFar new → new.plan ≡ old.plan → new.control.got ≡ old.control.got
     → TurnsEach old.sessions new.sessions → (i : ℕ) → session_at old.sessions i ≡ NotBegun → session_at new.sessions i ≡ NotBegun
