@@ -1,7 +1,6 @@
 -- Where all that a run's tasks found in turns that did nothing is put together, the broker is done.
 use Rattle.std.proofs.Common.{◌≡◌, ◌⊎◌, ℕ, ◌+◌, Bool, true, false, List, refl, sym, ◌∙◌, subst, arith, inl, inr}
 use Rattle.vchan_rule.specs.Seated.{view}
-use Rattle.qrexec_frame.specs.declared.message.Message.{Message}
 use Rattle.call_broker.specs.Journal.{is_dropped}
 use Rattle.agent_slots.specs.Sessions.{Session, is_open, session_at}
 use Rattle.broker_task.specs.declared.outbox.Letter.{Letter}

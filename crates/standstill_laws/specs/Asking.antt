@@ -1,6 +1,6 @@
 -- An agent none of whose sessions is open, where its control page stands still.
 -- Source: the messages are those of the qrexec protocol; the statement is this project's own.
-use Rattle.std.specs.Prelude.{◌≡◌, ℕ, false, List, [], length, map, filter_map, slice_get, Some, None, IsPermutation}
+use Rattle.std.specs.Prelude.{◌≡◌, ℕ, false, List, [], map, filter_map, slice_get, Some, None, IsPermutation}
 use Rattle.std.specs.List.{count_by, AllByRecursion as Each}
 use Rattle.list_laws.specs.Lists.{AreDifferent}
 use Rattle.qrexec_frame.specs.declared.message.Message.{Message}
