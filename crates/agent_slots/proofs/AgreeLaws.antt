@@ -15,6 +15,7 @@ use Rattle.agent_slots.specs.Whole.{frames, held_in, sessions, unused_at, unused
 use Rattle.agent_slots.proofs.OpenLaws.{open_at}
 use Rattle.agent_slots.proofs.TurnLaws.{tells_begun}
 use Rattle.agent_slots.proofs.OpenedLaws.{session_here, session_told, told_place, read_any}
+use Rattle.std.proofs.lemmas.List.{length-map}
 use Rattle.std.specs.List.{cons_option, AllByRecursion as Each}
 use Rattle.list_laws.proofs.Places.{get_map, get_map_back}
 use Rattle.list_laws.proofs.Each.{each_get}
@@ -58,6 +59,7 @@ still_open Taken h = cc
 pub agrees : (e : Ends) → IsWhole e → Each (λ s. CanRetire s.stage) e.slots.items → Agrees (state_of e false)
 agrees e whole can = record {
   version = whole.version_is;
+  count = length-map slots (λ (s : Slot). session_of s.stage) ∙ sym (length-map slots (λ (s : Slot). (frame_of s).held));
   sessions = all_stand e.version slots whole.stages can;
   unused = all_free e.version slots whole.stages;
   opened = each e.busy.items (λ k less. open_at (sessions slots) e.busy.items k (get_or e.busy.items k 0) whole.are_open less (read_any e.busy.items k less));

@@ -1,6 +1,6 @@
 -- How what is kept of the ends agrees with the session of each.
 -- Source: this project's own.
-use Rattle.std.specs.Prelude.{◌≡◌, ℕ, ◌≤◌, true, List, [], ◌∷◌, ◌++◌, map, slice_get, Some}
+use Rattle.std.specs.Prelude.{◌≡◌, ℕ, ◌≤◌, true, List, [], ◌∷◌, ◌++◌, length, map, slice_get, Some}
 use Rattle.std.specs.List.{AllByRecursion as Each}
 use Rattle.task_duties.specs.declared.place.PagePlace.{PagePlace}
 use Rattle.task_duties.specs.declared.done.SessionEnd.{SessionEnd}
@@ -39,9 +39,10 @@ SessionStands version (ServesWith at) =
 SessionStands version (EndedWith end) = end.retired ≡ true
 SessionStands version session = Unit {0}
 
--- an end is unused as long as its session hasn't begun, the parts of each session agree, that of one that is over is retired, and those that are told of as open are
+-- each end has a session; it is unused as long as that hasn't begun, the parts of each session agree, that of one that is over is retired, and those that are told of as open are
 pub record Agrees (s : SlotsState) : Type 0 where
   pub version : (2 ≤ s.version) × (s.version ≤ 3)
+  pub count : length s.sessions ≡ length s.held
   pub sessions : Each (SessionStands s.version) s.sessions
   pub unused : s.unused ≡ places_free (places_of s) s.sessions
   pub opened : Each (IsOpenAt s) s.opened

@@ -1,6 +1,8 @@
 -- What an agent has reported of the ends of its sessions.
-use Rattle.std.proofs.Common.{◌≡◌, ℕ, ◌<◌, List, [], ◌∷◌, ◌++◌, refl, ap, sym, ◌∙◌, Some, None, Option, subst, inl, inr, arith}
+use Rattle.std.proofs.Common.{◌≡◌, ℕ, ◌<◌, ◌≤◌, List, [], ◌∷◌, ◌++◌, length, refl, ap, sym, ◌∙◌, Some, None, Option, subst, inl, inr, arith}
 use Rattle.std.specs.Prelude.{◌⊎◌, Bool, true, false, map, filter_map, take, slice_get, IsSomeAnd, IsPermutation}
+use Rattle.std.proofs.lemmas.List.{length-map}
+use Rattle.std.proofs.lemmas.List.Sums.{count_by-le-length}
 use Rattle.std.specs.List.{flat_map, AllByRecursion as Each}
 use Rattle.list_laws.specs.Lists.{IsPartOf, SomeOf}
 use Rattle.list_laws.proofs.Places.{get_map}
@@ -12,6 +14,7 @@ use Rattle.vchan_rule.specs.Seated.{view}
 use Rattle.task_duties.specs.declared.done.ControlEnd.{ControlEnd}
 use Rattle.task_duties.specs.declared.done.SessionEnd.{SessionEnd}
 use Rattle.task_duties.specs.Hearing.{to_agent, to_broker, IsSaid, Heard, hears}
+use Rattle.task_duties.specs.Places.{has_place}
 use Rattle.task_duties.specs.TaskOwes.{EndAt, places_in}
 use Rattle.task_duties.specs.Agent.Answers.{Answer, Waits, IsRefused, At, answers}
 use Rattle.task_duties.specs.Agent.Saying.{asking_of}
@@ -20,7 +23,7 @@ use Rattle.control_port.specs.Port.{PortState, HasSaid, HasHeardAll, SentWhole}
 use Rattle.control_port.specs.Talking.{may_say, may_hear}
 use Rattle.control_port.specs.declared.talk.Talker.{Talker}
 use Rattle.control_port.specs.declared.talk.Talker.TheVariants.{Agent as OfAgent}
-use Rattle.agent_slots.specs.Slots.{held_at, place_at}
+use Rattle.agent_slots.specs.Slots.{SlotsState, held_at, late_count, place_at}
 use Rattle.agent_slots.specs.Agreeing.{places_free, places_of, SessionStands, IsOpenAt, Agrees}
 use Rattle.agent_control.specs.Speaking.{IsTellable}
 use Rattle.agent_task.specs.declared.agent.Agent.{Agent}
@@ -112,6 +115,10 @@ open_for a heard said stands agrees stand place c there is_open = ((stand place 
     by_answer (At to port) is (inl h) = inl (under_way to port is h)
     by_answer (At to port) is (inr h) = inr (h.1 is_open)
 
+-- no more sessions are on pages that are laid at their first use than are open
+late_few : (s : SlotsState) → late_count s ≤ length (map session_of_end s.opened)
+late_few s = omega (arith, count_by-le-length (λ o. has_place (place_at s.domain o.call o.domain o.port) s.late) s.opened, length-map s.opened session_of_end)
+
 acts_so_far : (a : Agent) (heard said : List Message) → Stands a heard said → KeepsEnds a heard said → HasHeardAll a.control.port heard → Agrees a.slots → ActsSoFar (state_of a) said
 acts_so_far a heard said stands keeps all agrees = record {
   channel = record {
@@ -128,8 +135,10 @@ acts_so_far a heard said stands keeps all agrees = record {
   };
   begun = ap (λ l. (answers (plan_of a.given) l).unused) (sym heard_is) ∙ (sym stands.answers.unused ∙ (agrees.unused ∙ ap (λ l. places_free l a.slots.sessions) places_are));
   version = subst (λ (v : ℕ). IsVersion v) stands.slots.version (record { least = agrees.version.0; small = omega (arith, agrees.version.1) });
+  count = agrees.count ∙ (sym (length-map a.slots.held (λ h. h.place)) ∙ ap length places_are);
   sessions = subst (λ (v : ℕ). Each (SessionStands v) a.slots.sessions) stands.slots.version agrees.sessions;
   opened = each_mapped (IsOpenAt a.slots) (IsOpenSession (state_of a)) session_of_end a.slots.opened is_open_lem agrees.opened;
+  pages = late_few a.slots;
 }
   where
     heard_is : heard ≡ (heard_on (plan_of a.given) (view a.control.port.end)).messages

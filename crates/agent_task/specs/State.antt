@@ -1,6 +1,6 @@
 -- An agent between two turns, as contracts see it.
 -- Source: this project's own.
-use Rattle.std.specs.Prelude.{◌≡◌, ◌≢◌, ◌⊎◌, ℕ, ◌<◌, true, List, [], ◌++◌, map, filter_map, take, slice_get, Option, Some, None, IsSomeAnd, IsPermutation}
+use Rattle.std.specs.Prelude.{◌≡◌, ◌≢◌, ◌⊎◌, ℕ, ◌<◌, ◌≤◌, true, List, [], ◌++◌, length, map, filter_map, take, slice_get, Option, Some, None, IsSomeAnd, IsPermutation}
 use Rattle.std.specs.List.{AllByRecursion as Each}
 use Rattle.list_laws.specs.Lists.{SomeOf}
 use Rattle.qrexec_frame.specs.declared.message.Message.{Message}
@@ -93,13 +93,15 @@ pub record IsChannelOf (task : AgentState) (said : List Message) (c : AgentContr
   pub asks : filter_map asking said ≡ take c.queue.next (map asking_of task.plan.calls)
   pub opened : task.over ≡ None → (place : ℕ) (call : Queued) → slice_get c.queue.calls place ≡ Some call → call.is_open ≡ true → (place < c.queue.next) × IsOpenFor (task.waiting ++ task.opened) said place call.answer
 
--- what it has made so far of what it heard: its calls, and its sessions, each of which has begun if it was let through or asked for at its place
+-- what it has made so far of what it heard: its calls, and its sessions, one for each data end, each of which has begun if it was let through or asked for at its place
 pub record ActsSoFar (task : AgentState) (said : List Message) : Type 0 where
   pub channel : IsSomeAnd task.channel (IsChannelOf task said)
   pub begun : (answers_so_far task).unused ≡ places_free task.plan.places task.sessions
   pub version : IsVersion task.plan.version
+  pub count : length task.sessions ≡ length task.plan.places
   pub sessions : Each (SessionStands task.plan.version) task.sessions
   pub opened : Each (IsOpenSession task) task.opened
+  pub pages : task.pages ≤ length task.opened
 
 -- what it has reported so far: while its control channel is up, the end of each session that it owes to report was reported, waits for that, or is yet to come
 pub record TellsSoFar (task : AgentState) : Type 0 where

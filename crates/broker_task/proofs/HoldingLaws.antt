@@ -72,7 +72,7 @@ line_waits ds to from port e =
       x = at.0;
       there = at.1;
       number = e.number;
-      up = ap (λ (l : BrokerLine). is_shut (view l.end).state) (sym at.2) ∙ e.up;
+      up = ap (λ (l : BrokerLine). is_shut (view l.port.end).state) (sym at.2) ∙ e.up;
       text = e.text;
       has = has_from _ _ (subst (λ (l : BrokerLine). Contains (messages_in l.letters) (Exec from port e.text)) at.2 e.waits);
     }
@@ -449,8 +449,8 @@ exec_free lines d from port text (l ∷ letters) held may (inl is) = let none : 
 exec_free lines d from port text (l ∷ letters) held may (inr h) = exec_free lines d from port text letters held.1 may.1 h
 
 -- the letters of no domain that is up wait, if all of them are held
-pub none_waits : (lines : List BrokerLine) → HoldsForExecs lines → ((place : ℕ) (line : BrokerLine) → IsAt lines place line → is_shut (view line.end).state ≡ false → AreHeld line.letters)
-    → (place : ℕ) (line : BrokerLine) → IsAt lines place line → is_shut (view line.end).state ≡ false → line.letters ≡ []
+pub none_waits : (lines : List BrokerLine) → HoldsForExecs lines → ((place : ℕ) (line : BrokerLine) → IsAt lines place line → is_shut (view line.port.end).state ≡ false → AreHeld line.letters)
+    → (place : ℕ) (line : BrokerLine) → IsAt lines place line → is_shut (view line.port.end).state ≡ false → line.letters ≡ []
 none_waits lines holds held place line at up = by_letters line.letters (held place line at up) (holds place line at)
   where
     waits_not : (to from port : ℕ) → ExecWaits lines to from port → ⊥

@@ -14,10 +14,11 @@ use Rattle.qrexec_frame.specs.declared.message.Message.TheVariants.{Connect}
 use Rattle.qrexec_frame.specs.Messages.{IsSpellable}
 use Rattle.qrexec_data.specs.declared.outcome.SessionFault.{SessionFault}
 use Rattle.call_broker.specs.declared.decision.Entry.{Entry}
+use Rattle.call_broker.specs.declared.event.Event.{Event}
 use Rattle.call_broker.specs.Domains.{Domains, is_domain, count_of}
 use Rattle.control_port.specs.declared.talk.Talker.{Talker}
 use Rattle.control_port.specs.declared.talk.Talker.TheVariants.{Broker as ByBroker}
-use Rattle.control_port.specs.Talking.{may_say}
+use Rattle.control_port.specs.Talking.{may_say, may_hear}
 use Rattle.control_port.specs.Port.{PortState, SentWhole, HasSaid}
 use Rattle.task_duties.specs.declared.ends.RetiredEnd.{RetiredEnd}
 use Rattle.task_duties.specs.Places.{numbers}
@@ -31,9 +32,9 @@ use Rattle.broker_task.specs.declared.switchboard.Switchboard.{Switchboard}
 use Rattle.broker_task.specs.Letters.{IsAt, messages_in}
 use Rattle.broker_task.specs.Lines.{end_of, BrokerEnd, broker_end, heard_by, is_shut, is_gone, MayDrop, MustDrop, IsGoing, IsLine, HasRead}
 use Rattle.broker_task.specs.Moving.{BrokerLine, line_of}
-use Rattle.broker_task.specs.Posting.{EachAt, MayGo, HasPosted, IsPosting}
-use Rattle.broker_task.specs.Given.{retired_end, IsRetiredOf}
-use Rattle.broker_task.specs.Holding.{lines_of, HoldsForExecs, NoneIsLost, ShutAreDropped}
+use Rattle.broker_task.specs.Posting.{EachAt, MayGo, HasPosted, HaveRead, IsPosting}
+use Rattle.broker_task.specs.Given.{end_on, retired_end, IsRetiredOf}
+use Rattle.broker_task.specs.Holding.{lines_of, HoldsForExecs, NoneIsLost, ShutAreDropped, PortStands, PortsStand}
 use Rattle.broker_task.specs.Rounds.{IsReady, IsSettled}
 use Rattle.broker_task.specs.Standing.{IsAttended, Stands, AreSettled}
 use Rattle.broker_task.proofs.Lists.{at_mapped}
@@ -124,17 +125,18 @@ at_paired R (a ∷ xs) (b ∷ ys) (suc i) y all at =
     let rest = at_paired R xs ys i y all.1 (record { within = omega (arith, at.within); is = at.is }) in
     (rest.0, record { within = omega (arith, rest.1.within); is = rest.1.is }, rest.2)
 
-stands : (s : Switchboard) → IsReady s → Stands s.broker.hub s.broker.journal (map broker_end s.daemons.items)
+stands : (s : Switchboard) → IsReady s → Stands s.broker.hub s.broker.journal (map end_on (lines_of s.daemons.items))
 stands s ready = record {
   decided = ready.posting.decided;
   numbered = ready.posting.numbered;
-  count = length-map s.daemons.items broker_end ∙ ready.posting.count;
+  count = length-map (lines_of s.daemons.items) end_on ∙ (length-map s.daemons.items line_of ∙ ready.posting.count);
   said = ready.posting.said;
   each = λ i e at.
-      let from = at_mapped broker_end s.daemons.items i e at in
+      let of = at_mapped end_on (lines_of s.daemons.items) i e at in
+      let from = at_mapped line_of s.daemons.items i of.0 of.1 in
       let x = from.0 in
       let line = ready.posting.lines i x from.1 in
-      subst (λ (b : BrokerEnd). IsAttended s.broker.hub s.broker.journal ready.posting.said (i + 1) b) (sym from.2)
+      subst (λ (b : BrokerEnd). IsAttended s.broker.hub s.broker.journal ready.posting.said (i + 1) b) (sym (of.2 ∙ ap end_on from.2))
       (attended s.broker.hub s.broker.journal ready.posting.said (i + 1) x (broker_end x) line (ready.posting.posted i x from.1) (ready.read i x from.1) (shows_itself (i + 1) x line));
 }
 
@@ -179,7 +181,7 @@ none_lost_lem : (hub : Domains) (journal : List Entry) (ds : List Daemon) (p : I
 none_lost_lem hub journal ds p = λ place line at up.
     let of = at_mapped line_of ds place line at in
     let h = p.posted place of.0 of.1 in
-    let none : h.lost ≡ [] = h.none_lost (ap (λ (l : BrokerLine). is_shut (view l.end).state) (sym of.2) ∙ up) in
+    let none : h.lost ≡ [] = h.none_lost (ap (λ (l : BrokerLine). is_shut (view l.port.end).state) (sym of.2) ∙ up) in
     subst (λ (l : BrokerLine). IsPermutation (p.said (place + 1) ++ messages_in l.letters) (outbox hub journal (place + 1))) (sym of.2)
     (subst (λ (w : List Message). IsPermutation (p.said (place + 1) ++ w) (outbox hub journal (place + 1))) (append-nil (messages_in of.0.outbox.letters.items))
     (subst (λ (l : List Message). IsPermutation (p.said (place + 1) ++ (messages_in of.0.outbox.letters.items ++ l)) (outbox hub journal (place + 1))) none h.kept))
@@ -188,14 +190,35 @@ none_lost_lem hub journal ds p = λ place line at up.
 shut_are_dropped : (hub : Domains) (journal : List Entry) (ds : List Daemon) → IsPosting hub journal ds → ShutAreDropped journal (lines_of ds)
 shut_are_dropped hub journal ds p = λ place line at.
     let of = at_mapped line_of ds place line at in
-    (p.posted place of.0 of.1).dropped ∙ ap (λ (l : BrokerLine). is_shut (view l.end).state) (sym of.2)
+    (p.posted place of.0 of.1).dropped ∙ ap (λ (l : BrokerLine). is_shut (view l.port.end).state) (sym of.2)
+
+-- each port stands for what was said and heard
+port_stands : (said : List Message) (d : ℕ) (events : List Event) (x : Daemon) → IsLine d x → HasSaid x.port said → HasRead x events → PortStands said (line_of x)
+port_stands said d events x line says read = record {
+  talker = line.talker;
+  own = line.own;
+  says = says;
+  hears = λ up.
+      let got = (end_of x).got in
+      let fault : (heard_by (end_of x)).fault ≡ x.port.fault = read.fine up ∙ sym (read.on up).fine in
+      ap (λ (own : ℕ). hears own (may_hear x.port.talker) got) line.own ∙ ap (λ (t : Talker). hears broker_version (may_hear t) got) line.talker
+      ∙ (λ i. record { version = read.version i; messages = (heard_by (end_of x)).messages; fault = fault i });
+}
+
+ports_stand : (hub : Domains) (journal : List Entry) (ds : List Daemon) (p : IsPosting hub journal ds) → HaveRead journal ds → PortsStand p.said (lines_of ds)
+ports_stand hub journal ds p read = λ place line at.
+    let of = at_mapped line_of ds place line at in
+    let x = of.0 in
+    subst (λ (l : BrokerLine). PortStands (p.said (place + 1)) l) (sym of.2)
+    (port_stands (p.said (place + 1)) (place + 1) (read_from journal (place + 1)) x (p.lines place x of.1) (p.posted place x of.1).says (read place x of.1))
 
 -- what stands of a task that goes on
 pub goes_on : (s : Switchboard) → IsReady s → (EachAt (IsSettled s.broker.hub s.broker.journal (length s.daemons.items)) s.daemons.items → ⊥)
-    → (st : Stands s.broker.hub s.broker.journal (map broker_end s.daemons.items)) × (AreSettled s.broker.hub (map (λ x. x.awaited) s.daemons.items) s.broker.journal st.said → ⊥)
+    → (st : Stands s.broker.hub s.broker.journal (map end_on (lines_of s.daemons.items))) × (AreSettled s.broker.hub (map (λ x. x.awaited) s.daemons.items) s.broker.journal st.said → ⊥)
     × NoneIsLost s.broker.hub s.broker.journal st.said (lines_of s.daemons.items) × HoldsForExecs (lines_of s.daemons.items) × ShutAreDropped s.broker.journal (lines_of s.daemons.items)
+    × PortsStand st.said (lines_of s.daemons.items)
 unfolding stands
-goes_on s ready unsettled = (stands s ready, (λ all. unsettled (settled_within s ready all)), none_lost_lem s.broker.hub s.broker.journal s.daemons.items ready.posting, ready.holds, shut_are_dropped s.broker.hub s.broker.journal s.daemons.items ready.posting)
+goes_on s ready unsettled = (stands s ready, (λ all. unsettled (settled_within s ready all)), none_lost_lem s.broker.hub s.broker.journal s.daemons.items ready.posting, ready.holds, shut_are_dropped s.broker.hub s.broker.journal s.daemons.items ready.posting, ports_stand s.broker.hub s.broker.journal s.daemons.items ready.posting ready.read)
 
 -- ---- all ends are given back
 

@@ -15,7 +15,7 @@ use Rattle.task_duties.specs.GivenEnds.{done_view}
 use Rattle.task_duties.specs.TaskOwes.{EndAt, TaskGiven, Broker, broker_ends}
 use Rattle.broker_task.specs.declared.daemon.Daemon.{Daemon}
 use Rattle.broker_task.specs.declared.switchboard.Switchboard.{Switchboard}
-use Rattle.broker_task.specs.Lines.{end_of, first_view, is_gone, BrokerEnd, broker_end}
+use Rattle.broker_task.specs.Lines.{end_of, first_view, is_gone, BrokerEnd, seen_end}
 use Rattle.broker_task.specs.Moving.{BrokerLine, line_of}
 
 -- the task of the broker, as contracts see it
@@ -24,11 +24,16 @@ pub record BrokerState : Type 0 where
   pub hub : Domains
   pub awaited : List ℕ
   pub ends : List EndAt
-  -- what was decided so far, and what is seen of these ends now
+  -- what was decided so far, and what it keeps for each domain
   pub journal : List Entry
-  pub controls : List BrokerEnd
-  -- and what it keeps for each domain
   pub lines : List BrokerLine
+
+-- what is seen of the end of a control page, and of all of them
+abbrev pub end_on : BrokerLine → BrokerEnd
+end_on line = seen_end line.port.end
+
+abbrev pub ends_now : BrokerState → List BrokerEnd
+ends_now task = map end_on task.lines
 
 -- what the task was given
 abbrev pub task_given : BrokerState → TaskGiven
@@ -44,7 +49,6 @@ state_of s = record {
   awaited = map (λ x. x.awaited) s.daemons.items;
   ends = broker_ends 1 (map (λ x. first_view (end_of x)) s.daemons.items);
   journal = s.broker.journal;
-  controls = map broker_end s.daemons.items;
   lines = map line_of s.daemons.items;
 }
 

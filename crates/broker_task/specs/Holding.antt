@@ -9,9 +9,12 @@ use Rattle.call_broker.specs.declared.decision.Entry.{Entry}
 use Rattle.call_broker.specs.Domains.{Domains}
 use Rattle.call_broker.specs.Journal.{is_dropped}
 use Rattle.task_duties.specs.Broker.Outbox.{outbox}
+use Rattle.task_duties.specs.Broker.Owes.{broker_version}
+use Rattle.control_port.specs.declared.talk.Talker.TheVariants.{Broker}
+use Rattle.control_port.specs.Port.{HasSaid, HasHeardAll}
 use Rattle.broker_task.specs.declared.daemon.Daemon.{Daemon}
 use Rattle.broker_task.specs.Letters.{IsAt, messages_in, connects}
-use Rattle.broker_task.specs.Lines.{is_shut}
+use Rattle.broker_task.specs.Lines.{heard_by, is_shut}
 use Rattle.broker_task.specs.Moving.{BrokerLine, line_of}
 
 abbrev pub lines_of : List Daemon → List BrokerLine
@@ -23,7 +26,7 @@ pub record ExecWaits (lines : List BrokerLine) (to from port : ℕ) : Type 0 whe
   pub line : BrokerLine
   pub there : IsAt lines place line
   pub number : place + 1 ≡ to
-  pub up : is_shut (view line.end).state ≡ false
+  pub up : is_shut (view line.port.end).state ≡ false
   pub text : List ℕ
   pub waits : Contains (messages_in line.letters) (Exec from port text)
 
@@ -38,12 +41,22 @@ HoldsForExecs lines = (place : ℕ) (line : BrokerLine) → IsAt lines place lin
 
 -- what the journal puts into the outbox of a domain that isn't dropped was said to it, or waits
 abbrev pub NoneIsLost : Domains → List Entry → (ℕ → List Message) → List BrokerLine → Type 0
-NoneIsLost hub journal said lines = (place : ℕ) (line : BrokerLine) → IsAt lines place line → is_shut (view line.end).state ≡ false
+NoneIsLost hub journal said lines = (place : ℕ) (line : BrokerLine) → IsAt lines place line → is_shut (view line.port.end).state ≡ false
     → IsPermutation (said (place + 1) ++ messages_in line.letters) (outbox hub journal (place + 1))
 
 -- the domains that were dropped are those whose ends are shut
 abbrev pub ShutAreDropped : List Entry → List BrokerLine → Type 0
-ShutAreDropped journal lines = (place : ℕ) (line : BrokerLine) → IsAt lines place line → is_dropped journal (place + 1) ≡ is_shut (view line.end).state
+ShutAreDropped journal lines = (place : ℕ) (line : BrokerLine) → IsAt lines place line → is_dropped journal (place + 1) ≡ is_shut (view line.port.end).state
+
+-- what was said to a domain went through the broker's port, of the broker's version; and while the domain isn't dropped all that came from it was heard
+pub record PortStands (said : List Message) (line : BrokerLine) : Type 0 where
+  pub talker : line.port.talker ≡ Broker
+  pub own : line.port.own ≡ broker_version
+  pub says : HasSaid line.port said
+  pub hears : is_shut (view line.port.end).state ≡ false → HasHeardAll line.port (heard_by (view line.port.end)).messages
+
+abbrev pub PortsStand : (ℕ → List Message) → List BrokerLine → Type 0
+PortsStand said lines = (place : ℕ) (line : BrokerLine) → IsAt lines place line → PortStands (said (place + 1)) line
 
 -- ---- while one is let go
 

@@ -7,7 +7,7 @@ use Rattle.vchan_protocol.specs.declared.call.EndState.{EndState}
 use Rattle.vchan_protocol.specs.declared.call.EndState.TheVariants.{Fresh, Open, Shut}
 use Rattle.vchan_lifecycle.specs.declared.DrainAnswer.{DrainAnswer}
 use Rattle.vchan_lifecycle.specs.declared.DrainAnswer.TheVariants.{More, NotYet, AllRead, PeerGone}
-use Rattle.vchan_rule.specs.Seated.{view}
+use Rattle.vchan_rule.specs.Seated.{SeatedEnd, view}
 use Rattle.end_view.specs.EndView.{EndView, state_at_first}
 use Rattle.qrexec_frame.specs.declared.message.Message.{Message}
 use Rattle.qrexec_frame.specs.Messages.{IsSpellable}
@@ -51,8 +51,11 @@ pub record BrokerEnd : Type 0 where
   pub view : EndView
   pub gone : Option ℕ
 
+abbrev pub seen_end : SeatedEnd → BrokerEnd
+seen_end e = record { view = view e; gone = e.side.notes.gone }
+
 abbrev pub broker_end : Daemon → BrokerEnd
-broker_end x = record { view = end_of x; gone = x.port.end.side.notes.gone }
+broker_end x = seen_end x.port.end
 
 -- what the broker hears of a domain by such an end
 abbrev pub heard_by : EndView → Heard

@@ -11,6 +11,7 @@ use Rattle.vchan_lifecycle.specs.Lifecycle.{FindsNotYet}
 use Rattle.vchan_packet.specs.Packet.{FailsToSend}
 use Rattle.vchan_rule.specs.Seated.{SeatedEnd, view}
 use Rattle.vchan_rule.specs.Ends.{IsSameEnd}
+use Rattle.control_port.specs.Port.{PortState}
 use Rattle.qrexec_frame.specs.Messages.{written}
 use Rattle.qrexec_frame.specs.declared.message.Message.TheVariants.{Hello}
 use Rattle.task_duties.specs.Broker.Owes.{broker_version}
@@ -19,15 +20,13 @@ use Rattle.broker_task.specs.declared.daemon.Daemon.{Daemon}
 use Rattle.broker_task.specs.Letters.{IsAt, AreHeld}
 use Rattle.broker_task.specs.Lines.{is_begun, is_shut}
 
--- one domain: the broker's end of its control page, with the events of its last call; the version, once the domain's greeting was read; whether the broker's own greeting was sent; and the letters that wait
+-- one domain: the broker's port on its control page, whose end has the events of its last call, and the letters that wait
 pub record BrokerLine : Type 0 where
-  pub end : SeatedEnd
-  pub version : Option ℕ
-  pub greeted : Bool
+  pub port : PortState
   pub letters : List Letter
 
 abbrev pub line_of : Daemon → BrokerLine
-line_of x = record { end = x.port.end; version = x.port.version; greeted = x.port.greeted; letters = x.outbox.letters.items }
+line_of x = record { port = x.port; letters = x.outbox.letters.items }
 
 -- ---- letters, from one moment to a later one
 
@@ -74,7 +73,7 @@ pub data SaysNothing (version : Option ℕ) (greeted : Bool) (letters : List Let
 
 -- something was heard from it, or said to it
 abbrev pub HasMoved : BrokerLine → BrokerLine → Type 0
-HasMoved old new = (length (view old.end).got < length (view new.end).got) ⊎ (length (view old.end).sent < length (view new.end).sent)
+HasMoved old new = (length (view old.port.end).got < length (view new.port.end).got) ⊎ (length (view old.port.end).sent < length (view new.port.end).sent)
 
 -- nothing was heard and nothing said; between the two its end was `heard`, and these letters waited
 pub record IsQuiet (old new : BrokerLine) : Type 0 where
@@ -82,14 +81,14 @@ pub record IsQuiet (old new : BrokerLine) : Type 0 where
   pub letters : List Letter
   pub before : IsLater old.letters letters
   pub after : IsLater letters new.letters
-  pub hears : HearsNothing old.version letters old.end heard
-  pub says : SaysNothing new.version new.greeted letters heard new.end
+  pub hears : HearsNothing old.port.version letters old.port.end heard
+  pub says : SaysNothing new.port.version new.port.greeted letters heard new.port.end
 
 -- the broker has connected; nothing of a domain was lost, and one that isn't dropped moved or was quiet
 pub record HasTurned (old new : BrokerLine) : Type 0 where
-  pub begun : is_begun (view new.end).state ≡ true
-  pub grows : Grows old.end new.end
-  pub found : is_shut (view new.end).state ≡ false → HasMoved old new ⊎ IsQuiet old new
+  pub begun : is_begun (view new.port.end).state ≡ true
+  pub grows : Grows old.port.end new.port.end
+  pub found : is_shut (view new.port.end).state ≡ false → HasMoved old new ⊎ IsQuiet old new
 
 -- ---- the steps of a turn, domain by domain
 

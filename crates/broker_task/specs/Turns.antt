@@ -8,9 +8,9 @@ use Rattle.broker_task.specs.declared.switchboard.Switchboard.{Switchboard}
 use Rattle.task_duties.specs.declared.ends.TaskTurn.{TaskTurn}
 use Rattle.broker_task.specs.declared.task.BrokerDone.{BrokerDone}
 use Rattle.task_duties.specs.declared.ends.TaskTurn.TheVariants as turn
-use Rattle.broker_task.specs.Given.{BrokerState, task_given, retired_end, IsRetiredOf}
+use Rattle.broker_task.specs.Given.{BrokerState, ends_now, task_given, retired_end, IsRetiredOf}
 use Rattle.broker_task.specs.Moving.{BrokerLine, line_of, HasTurned}
-use Rattle.broker_task.specs.Holding.{HoldsForExecs, NoneIsLost, ShutAreDropped}
+use Rattle.broker_task.specs.Holding.{HoldsForExecs, NoneIsLost, ShutAreDropped, PortsStand}
 use Rattle.broker_task.specs.Standing.{Stands, AreSettled}
 
 -- a task that goes on owes what it owed, and a task that is done gives that; if memory ran out, the task gives all its ends back
@@ -19,11 +19,11 @@ Pays given (turn.Again task) = task_given task ≡ given
 Pays given (turn.Done done) = TaskOwes given (duty.BrokerDone done.broker (all_retired done.ends.items))
 Pays given (turn.NoMemory ends) = TaskOwes given (NoMemory (all_retired ends.items))
 
--- each domain was attended to; and where the task goes on, not all of them are settled, no letter is lost, none is held that may go, and just the domains that were dropped are shut
+-- each domain was attended to; and where the task goes on, not all of them are settled, no letter is lost, none is held that may go, just the domains that were dropped are shut, and each port stands for what was said and heard
 abbrev pub StandsAfter : TaskTurn BrokerState BrokerDone → Type 0
 StandsAfter (turn.Again task) =
-    (stands : Stands task.hub task.journal task.controls) × (AreSettled task.hub task.awaited task.journal stands.said → ⊥)
-    × NoneIsLost task.hub task.journal stands.said task.lines × HoldsForExecs task.lines × ShutAreDropped task.journal task.lines
+    (stands : Stands task.hub task.journal (ends_now task)) × (AreSettled task.hub task.awaited task.journal stands.said → ⊥)
+    × NoneIsLost task.hub task.journal stands.said task.lines × HoldsForExecs task.lines × ShutAreDropped task.journal task.lines × PortsStand stands.said task.lines
 StandsAfter (turn.Done done) = Stands done.broker.hub done.broker.journal (map retired_end done.ends.items)
 StandsAfter (turn.NoMemory ends) = Unit {0}
 

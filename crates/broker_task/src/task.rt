@@ -81,6 +81,7 @@ impl<'p> BrokerTask<'p> {
         requires controls { length controls.items ≡ count_of broker.hub }
         requires unused { Each IsNewClient controls.items }
         ensures made { IfOk result (λ task. task_given task ≡ broker_given broker.hub awaited.items (map view controls.entry.items)) }
+        ensures lines { IfOk result (λ task. length task.lines ≡ count_of broker.hub) }
         ensures unmade { IfErr result (λ ends. ends ≡ controls.entry) }
     {
         let Ok(buf) = vec![in alloc; 0u8; CHUNK] else {
@@ -116,7 +117,8 @@ impl<'p> BrokerTask<'p> {
     ///
     /// After each turn every domain that must be dropped is dropped, and no other without a cause. No domain
     /// was greeted before it greeted. If a Connect was sent, the Exec of its call was sent too, or the target
-    /// was dropped. A task that wants another turn isn't settled. Then each message for a domain that isn't dropped
+    /// was dropped. A task that wants another turn isn't settled, and its port to each domain stands for what was
+    /// said to it and, unless it was dropped, heard from it. Then each message for a domain that isn't dropped
     /// was sent or waits, and one that is held is the Connect of a call whose Exec still waits for its target,
     /// which isn't dropped.
     ///

@@ -233,29 +233,29 @@ agent_works old new takes keeps turns =
 -- ---- the broker
 
 -- the bytes of an end grew, or there are as many as before
-bytes_more : (old new : BrokerLine) → length (view old.end).got ≤ length (view new.end).got → length (view old.end).sent ≤ length (view new.end).sent
-    → (bytes_on old.end < bytes_on new.end) ⊎ ((length (view new.end).got ≡ length (view old.end).got) × (length (view new.end).sent ≡ length (view old.end).sent))
-bytes_more old new got sent = by_sum (more_or_same (bytes_on old.end) (bytes_on new.end) (omega (arith, got, sent)))
+bytes_more : (old new : BrokerLine) → length (view old.port.end).got ≤ length (view new.port.end).got → length (view old.port.end).sent ≤ length (view new.port.end).sent
+    → (bytes_on old.port.end < bytes_on new.port.end) ⊎ ((length (view new.port.end).got ≡ length (view old.port.end).got) × (length (view new.port.end).sent ≡ length (view old.port.end).sent))
+bytes_more old new got sent = by_sum (more_or_same (bytes_on old.port.end) (bytes_on new.port.end) (omega (arith, got, sent)))
   where
-    by_sum : (bytes_on old.end < bytes_on new.end) ⊎ (bytes_on old.end ≡ bytes_on new.end)
-        → (bytes_on old.end < bytes_on new.end) ⊎ ((length (view new.end).got ≡ length (view old.end).got) × (length (view new.end).sent ≡ length (view old.end).sent))
+    by_sum : (bytes_on old.port.end < bytes_on new.port.end) ⊎ (bytes_on old.port.end ≡ bytes_on new.port.end)
+        → (bytes_on old.port.end < bytes_on new.port.end) ⊎ ((length (view new.port.end).got ≡ length (view old.port.end).got) × (length (view new.port.end).sent ≡ length (view old.port.end).sent))
     by_sum (inl more) = inl more
     by_sum (inr same) = inr (omega (arith, got, sent, same), omega (arith, got, sent, same))
 
 line_works : (old new : BrokerLine) → HasTurned old new → (work_with old ≤ work_with new) × ((work_with old < work_with new) ⊎ Rests old new)
-line_works old new t = by_begun (is_begun (view old.end).state) refl
+line_works old new t = by_begun (is_begun (view old.port.end).state) refl
   where
-    after_begun : one_if (is_begun (view new.end).state) ≡ 1
+    after_begun : one_if (is_begun (view new.port.end).state) ≡ 1
     after_begun = ap one_if t.begun
 
     -- the broker has connected in this turn
-    begins : is_begun (view old.end).state ≡ false → (work_with old ≤ work_with new) × ((work_with old < work_with new) ⊎ Rests old new)
-    begins was = by_state (is_shut (view old.end).state) refl
+    begins : is_begun (view old.port.end).state ≡ false → (work_with old ≤ work_with new) × ((work_with old < work_with new) ⊎ Rests old new)
+    begins was = by_state (is_shut (view old.port.end).state) refl
       where
-        before : one_if (is_begun (view old.end).state) ≡ 0
+        before : one_if (is_begun (view old.port.end).state) ≡ 0
         before = ap one_if was
 
-        by_state : (b : Bool) → is_shut (view old.end).state ≡ b → (work_with old ≤ work_with new) × ((work_with old < work_with new) ⊎ Rests old new)
+        by_state : (b : Bool) → is_shut (view old.port.end).state ≡ b → (work_with old ≤ work_with new) × ((work_with old < work_with new) ⊎ Rests old new)
         by_state true is =
             let old_shut = ap one_if is in
             let new_shut = ap one_if (t.grows.shut is) in (
@@ -266,12 +266,12 @@ line_works old new t = by_begun (is_begun (view old.end).state) refl
             let old_shut = ap one_if is in (omega (arith, t.grows.got, t.grows.sent, before, after_begun, old_shut), inl (omega (arith, t.grows.got, t.grows.sent, before, after_begun, old_shut)))
 
     -- it had connected before
-    had_begun : is_begun (view old.end).state ≡ true → one_if (is_begun (view new.end).state) ≡ one_if (is_begun (view old.end).state)
+    had_begun : is_begun (view old.port.end).state ≡ true → one_if (is_begun (view new.port.end).state) ≡ one_if (is_begun (view old.port.end).state)
     had_begun was = ap one_if (t.begun ∙ sym was)
 
     -- it stays as it was, up or dropped
-    by_bytes : is_begun (view old.end).state ≡ true → is_shut (view new.end).state ≡ is_shut (view old.end).state → (is_shut (view new.end).state ≡ false → IsQuiet old new)
-        → (bytes_on old.end < bytes_on new.end) ⊎ ((length (view new.end).got ≡ length (view old.end).got) × (length (view new.end).sent ≡ length (view old.end).sent))
+    by_bytes : is_begun (view old.port.end).state ≡ true → is_shut (view new.port.end).state ≡ is_shut (view old.port.end).state → (is_shut (view new.port.end).state ≡ false → IsQuiet old new)
+        → (bytes_on old.port.end < bytes_on new.port.end) ⊎ ((length (view new.port.end).got ≡ length (view old.port.end).got) × (length (view new.port.end).sent ≡ length (view old.port.end).sent))
         → (work_with old ≤ work_with new) × ((work_with old < work_with new) ⊎ Rests old new)
     by_bytes begun shut quiet (inl more) =
         let same = ap one_if shut in
@@ -280,7 +280,7 @@ line_works old new t = by_begun (is_begun (view old.end).state) refl
         let same = ap one_if shut in
         let both = had_begun begun in (omega (arith, none.0, none.1, same, both), inr (record { begun = t.begun ∙ sym begun; shut = shut; got = none.0; sent = none.1; quiet = quiet }))
 
-    by_found : is_begun (view old.end).state ≡ true → is_shut (view old.end).state ≡ false → is_shut (view new.end).state ≡ false → HasMoved old new ⊎ IsQuiet old new
+    by_found : is_begun (view old.port.end).state ≡ true → is_shut (view old.port.end).state ≡ false → is_shut (view new.port.end).state ≡ false → HasMoved old new ⊎ IsQuiet old new
         → (work_with old ≤ work_with new) × ((work_with old < work_with new) ⊎ Rests old new)
     by_found begun was is (inl (inl more)) =
         let before = ap one_if was in
@@ -292,7 +292,7 @@ line_works old new t = by_begun (is_begun (view old.end).state) refl
         let both = had_begun begun in (omega (arith, t.grows.got, t.grows.sent, before, after, both), inl (omega (arith, more, t.grows.got, before, after, both)))
     by_found begun was is (inr quiet) = by_bytes begun (is ∙ sym was) (λ up. quiet) (bytes_more old new t.grows.got t.grows.sent)
 
-    by_shut : is_begun (view old.end).state ≡ true → (a b : Bool) → is_shut (view old.end).state ≡ a → is_shut (view new.end).state ≡ b → (work_with old ≤ work_with new) × ((work_with old < work_with new) ⊎ Rests old new)
+    by_shut : is_begun (view old.port.end).state ≡ true → (a b : Bool) → is_shut (view old.port.end).state ≡ a → is_shut (view new.port.end).state ≡ b → (work_with old ≤ work_with new) × ((work_with old < work_with new) ⊎ Rests old new)
     by_shut begun true true was is = by_bytes begun (is ∙ sym was) (λ up. absurd (false≢true (sym up ∙ is))) (bytes_more old new t.grows.got t.grows.sent)
     by_shut begun true false was is = absurd (false≢true (sym is ∙ t.grows.shut was))
     by_shut begun false true was is =
@@ -301,8 +301,8 @@ line_works old new t = by_begun (is_begun (view old.end).state) refl
         let both = had_begun begun in (omega (arith, t.grows.got, t.grows.sent, before, after, both), inl (omega (arith, t.grows.got, t.grows.sent, before, after, both)))
     by_shut begun false false was is = by_found begun was is (t.found is)
 
-    by_begun : (b : Bool) → is_begun (view old.end).state ≡ b → (work_with old ≤ work_with new) × ((work_with old < work_with new) ⊎ Rests old new)
-    by_begun true was = by_shut was (is_shut (view old.end).state) (is_shut (view new.end).state) refl refl
+    by_begun : (b : Bool) → is_begun (view old.port.end).state ≡ b → (work_with old ≤ work_with new) × ((work_with old < work_with new) ⊎ Rests old new)
+    by_begun true was = by_shut was (is_shut (view old.port.end).state) (is_shut (view new.port.end).state) refl refl
     by_begun false was = begins was
 
 lines_work : (old new : List BrokerLine) → EachPair HasTurned old new → (work_with_all old ≤ work_with_all new) × ((work_with_all old < work_with_all new) ⊎ EachPair Rests old new)

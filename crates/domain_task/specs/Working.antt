@@ -85,7 +85,7 @@ pub record AgentRests (old new : AgentState) : Type 0 where
 
 -- what was heard from a domain and said to it, one more once the broker has connected, and one once the domain was dropped
 abbrev pub work_with : BrokerLine → ℕ
-work_with line = bytes_on line.end + one_if (is_begun (view line.end).state) + one_if (is_shut (view line.end).state)
+work_with line = bytes_on line.port.end + one_if (is_begun (view line.port.end).state) + one_if (is_shut (view line.port.end).state)
 
 abbrev pub work_with_all : List BrokerLine → ℕ
 work_with_all [] = 0
@@ -93,11 +93,11 @@ work_with_all (line ∷ lines) = work_with line + work_with_all lines
 
 -- a domain was quiet, or had been dropped; the broker had connected before; nothing was heard from it, and nothing said to it
 pub record Rests (old new : BrokerLine) : Type 0 where
-  pub begun : is_begun (view new.end).state ≡ is_begun (view old.end).state
-  pub shut : is_shut (view new.end).state ≡ is_shut (view old.end).state
-  pub got : length (view new.end).got ≡ length (view old.end).got
-  pub sent : length (view new.end).sent ≡ length (view old.end).sent
-  pub quiet : is_shut (view new.end).state ≡ false → IsQuiet old new
+  pub begun : is_begun (view new.port.end).state ≡ is_begun (view old.port.end).state
+  pub shut : is_shut (view new.port.end).state ≡ is_shut (view old.port.end).state
+  pub got : length (view new.port.end).got ≡ length (view old.port.end).got
+  pub sent : length (view new.port.end).sent ≡ length (view old.port.end).sent
+  pub quiet : is_shut (view new.port.end).state ≡ false → IsQuiet old new
 
 -- ---- a hostile domain, by the turns of its acts
 

@@ -35,7 +35,7 @@ use Rattle.broker_task.specs.Letters.{IsAt}
 use Rattle.broker_task.specs.Lines.{is_shut}
 use Rattle.broker_task.specs.Moving.{BrokerLine}
 use Rattle.standstill_laws.specs.Control.{Hears, Talks}
-use Rattle.standstill_laws.specs.Letters.{IsAtRest, AreAtRest, IsPortOf}
+use Rattle.standstill_laws.specs.Letters.{IsAtRest, AreAtRest}
 use Rattle.standstill_laws.specs.Answers.{asks, is_trigger, is_answer, EachTriggerIsAnswered, AllCallsAreAnswered}
 use Rattle.standstill_laws.proofs.ControlLaws.{all_is_heard_lem}
 use Rattle.standstill_laws.proofs.LetterLaws.{all_answers_are_heard_lem}
@@ -197,27 +197,28 @@ asks_counts w d (m ∷ messages) = by_message m (asks_counts w d messages)
     by_message m rest = rest ∙ sym (count_same (is_trigger w) m messages refl)
 
 -- the broker has read all that the agent of a domain sent
-pub broker_reads : (hub : Domains) (journal : List Entry) (said : ℕ → List Message) (lines : List BrokerLine) (rest : AreAtRest lines) (place : ℕ) (line : BrokerLine) (at : IsAt lines place line) (up : is_shut (view line.end).state ≡ false)
-    → (a b : PortState) (said_a heard_a heard_b : List Message) → IsPortOf line b → b.own ≡ broker_version → Talks (rest place line at up).core Server Agent a said_a heard_a → Talks (rest place line at up).core Client Broker b (said (place + 1)) heard_b
-    → (hears broker_version to_broker (view b.end).got).messages ≡ said_a
-broker_reads hub journal said lines rest place line at up a b said_a heard_a heard_b port own talks_a talks_b =
+pub broker_reads : (hub : Domains) (journal : List Entry) (said : ℕ → List Message) (lines : List BrokerLine) (rest : AreAtRest lines) (place : ℕ) (line : BrokerLine) (at : IsAt lines place line) (up : is_shut (view line.port.end).state ≡ false)
+    → (a : PortState) (said_a heard_a heard_b : List Message) → line.port.own ≡ broker_version → Talks (rest place line at up).core Server Agent a said_a heard_a → Talks (rest place line at up).core Client Broker line.port (said (place + 1)) heard_b
+    → (hears broker_version to_broker (view line.port.end).got).messages ≡ said_a
+broker_reads hub journal said lines rest place line at up a said_a heard_a heard_b own talks_a talks_b =
+    let b = line.port in
     let r : IsAtRest line = rest place line at up in
     let hears_all = all_is_heard_lem r.core a b said_a heard_a (said (place + 1)) heard_b r.page.lawful r.page.server_found r.page.client_found talks_a talks_b in
     ap (λ (n : ℕ). (hears n to_broker (view b.end).got).messages) (sym own)
     ∙ ap (λ (t : Talker). (hears b.own (may_hear t) (view b.end).got).messages) (sym talks_b.talker_is)
     ∙ (ap (λ (h : Heard). h.messages) talks_b.hears ∙ by_greeted a.greeted hears_all.0 r.greets)
   where
-    by_greeted : (g : Bool) → Hears g a b said_a heard_b → IsSome line.version → heard_b ≡ said_a
+    by_greeted : (g : Bool) → Hears g a line.port said_a heard_b → IsSome line.port.version → heard_b ≡ said_a
     by_greeted true hears some = hears.0
     by_greeted false hears some =
-        let none : IsSome {T = ℕ} None = subst (λ (o : Option ℕ). IsSome o) (sym port.version ∙ hears.1) some in cc none
+        let none : IsSome {T = ℕ} None = subst (λ (o : Option ℕ). IsSome o) hears.1 some in cc none
 
 pub all_calls_are_answered_lem : AllCallsAreAnswered
-all_calls_are_answered_lem hub journal said lines decided holds kept rest place line at up there a b said_a heard_a heard_b port own attended talks_a talks_b name =
+all_calls_are_answered_lem hub journal said lines decided holds kept rest place line at up there a said_a heard_a heard_b own attended talks_a talks_b name =
     let d : ℕ = place + 1 in
-    let answers_are = all_answers_are_heard_lem hub journal said lines holds kept rest place line at up a b said_a heard_a heard_b port talks_a talks_b in
+    let answers_are = all_answers_are_heard_lem hub journal said lines holds kept rest place line at up a said_a heard_a heard_b talks_a talks_b in
     let replies : count_by (is_answer name) heard_a ≡ count_by (is_answer name) (outbox hub journal d) = sym (sum_by-IsPermutation (λ (m : Message). cond (is_answer name m) 1 0) heard_a (outbox hub journal d) answers_are) in
     let asked : count_by (asks name) (read_from journal d) ≡ count_by (is_trigger name) said_a =
-    ap (count_by (asks name)) attended.reads ∙ asks_counts name d (hears broker_version to_broker (view b.end).got).messages
-    ∙ ap (count_by (is_trigger name)) (broker_reads hub journal said lines rest place line at up a b said_a heard_a heard_b port own talks_a talks_b) in
+    ap (count_by (asks name)) attended.reads ∙ asks_counts name d (hears broker_version to_broker (view line.port.end).got).messages
+    ∙ ap (count_by (is_trigger name)) (broker_reads hub journal said lines rest place line at up a said_a heard_a heard_b own talks_a talks_b) in
     replies ∙ each_trigger_is_answered_lem hub journal d name decided there ∙ asked

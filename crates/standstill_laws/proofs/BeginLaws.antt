@@ -76,8 +76,11 @@ same_free (p ∷ places) (a ∷ old) (b ∷ new) long long' still same i shut =
 same_free _ _ new long long' still same i shut = absurd (omega (arith, long))
 
 pub no_session_begins_lem : NoSessionBegins
-no_session_begins_lem old new tells tells' plan got long long' turns i shut = has_not (session_at new.sessions i) (same_free old.plan.places old.sessions new.sessions long long' still same i (ap has_begun shut))
+no_session_begins_lem old new tells tells' plan got turns i shut = has_not (session_at new.sessions i) (same_free old.plan.places old.sessions new.sessions tells.acts.count long still same i (ap has_begun shut))
   where
+    long : length new.sessions ≡ length old.plan.places
+    long = tells'.acts.count ∙ ap (λ (p : AgentPlan). length p.places) plan
+
     answered : answers_so_far new ≡ answers_so_far old
     answered = ap (λ (p : AgentPlan). answers p (hears p.version to_agent new.control.got).messages) plan ∙ ap (λ (bytes : List ℕ). answers old.plan (hears old.plan.version to_agent bytes).messages) got
 

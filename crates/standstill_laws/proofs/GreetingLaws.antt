@@ -1,5 +1,5 @@
 -- Each side of a control page that stands still has greeted and has read the other's greeting.
-use Rattle.std.proofs.Common.{◌≡◌, ℕ, ◌<◌, ◌∙◌, Bool, true, false, Option, None, List, length, inl, inr, refl, subst, sym, ap, arith}
+use Rattle.std.proofs.Common.{◌≡◌, ℕ, ◌<◌, Bool, true, false, Option, None, List, length, inl, inr, refl, subst, sym, ap, arith}
 use Rattle.std.specs.Prelude.{◌⊎◌, IsSome}
 use Rattle.std.specs.List.{flat_map}
 use Rattle.std.proofs.lemmas.List.{length-append}
@@ -13,6 +13,7 @@ use Rattle.qrexec_frame.specs.Messages.{written}
 use Rattle.control_port.specs.Port.{PortState, SentWhole, HasSaid}
 use Rattle.agent_task.specs.Moving.{Greets, WasSent, IsSent, IsUnsent}
 use Rattle.broker_task.specs.Letters.{AreHeld}
+use Rattle.broker_task.specs.Moving.{BrokerLine}
 use Rattle.broker_task.proofs.MovingCalls.{some_bytes}
 use Rattle.standstill_laws.specs.Page.{IsStillPage}
 use Rattle.standstill_laws.specs.Control.{Hears}
@@ -50,12 +51,12 @@ agent_greeted core page a said says t =
 -- ---- the broker
 
 -- once it has read the domain's greeting it has sent its own
-broker_greeted : (core : Core) → IsStillPage core → (b : PortState) → BrokerSaysNothing core b → IsSome b.version → b.greeted ≡ true
-broker_greeted core page b t read = by_cause (broker_has_said_all_lem core t.line t.heard t.line.end page t.says t.still)
+broker_greeted : (core : Core) → IsStillPage core → (line : BrokerLine) → BrokerSaysNothing core line → IsSome line.port.version → line.port.greeted ≡ true
+broker_greeted core page line t read = by_cause (broker_has_said_all_lem core line t.heard line.port.end page t.says t.still)
   where
-    by_cause : (t.line.version ≡ None) ⊎ ((t.line.greeted ≡ true) × AreHeld t.line.letters) → b.greeted ≡ true
-    by_cause (inl none) = let some : IsSome {T = ℕ} None = subst (λ (o : Option ℕ). IsSome o) (t.port_is.version ∙ none) read in cc some
-    by_cause (inr done) = t.port_is.greeted ∙ done.0
+    by_cause : (line.port.version ≡ None) ⊎ ((line.port.greeted ≡ true) × AreHeld line.letters) → line.port.greeted ≡ true
+    by_cause (inl none) = let some : IsSome {T = ℕ} None = subst (λ (o : Option ℕ). IsSome o) none read in cc some
+    by_cause (inr done) = done.0
 
 -- ---- both
 
@@ -66,9 +67,10 @@ read_by from at said heard greeted hears =
     subst (λ (o : Option ℕ). IsSome o) (sym whole.1) refl
 
 pub greetings_are_read_lem : GreetingsAreRead
-greetings_are_read_lem core a b said_a heard_a said_b heard_b page ta tb agent broker =
+greetings_are_read_lem core a line said_a heard_a said_b heard_b page ta tb agent broker =
+    let b = line.port in
     let hears = all_is_heard_lem core a b said_a heard_a said_b heard_b page.lawful page.server_found page.client_found ta tb in
     let first = agent_greeted core page a said_a ta.says agent in
     let read = read_by a b said_a heard_b first hears.0 in
-    let second = broker_greeted core page b broker read in
+    let second = broker_greeted core page line broker read in
     (first, read, second, read_by b a said_b heard_a second hears.1)

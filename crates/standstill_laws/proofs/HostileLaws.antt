@@ -60,18 +60,18 @@ told_here core who old new f still = by_word (not_gone (subst (λ (o : Option �
 pub heard_here : (core : Core) (old new : BrokerLine) (q : IsQuiet old new) → IsGoneStill core Client (loads_of (standing_of q.hears.began.side) q.heard.side.trail) → word_at core.orders core.words (peer_gone Client) ≡ 0
 heard_here core old new q still = by_finds q.hears.finds
   where
-    by_finds : FindsNotYet q.hears.began q.heard ⊎ (IsSome old.version × (64 ≤ length q.letters) × FindsHere q.hears.began q.heard) → word_at core.orders core.words (peer_gone Client) ≡ 0
+    by_finds : FindsNotYet q.hears.began q.heard ⊎ (IsSome old.port.version × (64 ≤ length q.letters) × FindsHere q.hears.began q.heard) → word_at core.orders core.words (peer_gone Client) ≡ 0
     by_finds (inl f) = not_left core Client q.hears.began q.heard f still
     by_finds (inr full) = told_here core Client q.hears.began q.heard full.2 still
 
 pub left_are_dropped_lem : LeftAreDropped
-left_are_dropped_lem core old new left turned none still = by_shut (is_shut (view new.end).state) refl
+left_are_dropped_lem core old new left turned none still = by_shut (is_shut (view new.port.end).state) refl
   where
-    by_found : HasMoved old new ⊎ IsQuiet old new → is_shut (view new.end).state ≡ true
+    by_found : HasMoved old new ⊎ IsQuiet old new → is_shut (view new.port.end).state ≡ true
     by_found (inl moved) = absurd (none moved)
     by_found (inr q) = absurd (left (heard_here core old new q (still q)))
 
-    by_shut : (b : Bool) → is_shut (view new.end).state ≡ b → is_shut (view new.end).state ≡ true
+    by_shut : (b : Bool) → is_shut (view new.port.end).state ≡ b → is_shut (view new.port.end).state ≡ true
     by_shut true is = is
     by_shut false is = by_found (turned.found is)
 

@@ -95,7 +95,7 @@ module _ (before now : Core) (old : Lawful before) (new : Lawful now) (rested : 
   stops_still calls was is (AtTheLimit none next) still = tt
   stops_still calls was is (AtATrigger none back) still = holds_back_still was is back still
 
-  says_nothing_still : (line : BrokerLine) (was is : SeatedEnd) (s : SaysNothing line.version line.greeted line.letters was is) → SaysNothingStill before line was is s → SaysNothingStill now line was is s
+  says_nothing_still : (line : BrokerLine) (was is : SeatedEnd) (s : SaysNothing line.port.version line.port.greeted line.letters was is) → SaysNothingStill before line was is s → SaysNothingStill now line was is s
   says_nothing_still line was is (greeting_waits none same fails) still = fails_still Client (written (Hello broker_version)) was is fails still
   says_nothing_still line was is (letter_waits at l greets there ready kept same fails) still = fails_still Client (written l.message) was is fails still
   says_nothing_still line was is _ still = tt

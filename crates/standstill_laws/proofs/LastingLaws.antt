@@ -1,7 +1,6 @@
 -- Where all that a run's tasks found in turns that did nothing is put together, the broker is done.
 use Rattle.std.proofs.Common.{◌≡◌, ◌⊎◌, ℕ, ◌+◌, Bool, true, false, List, refl, sym, ◌∙◌, subst, arith, inl, inr}
 use Rattle.vchan_rule.specs.Seated.{view}
-use Rattle.qrexec_frame.specs.declared.message.Message.{Message}
 use Rattle.call_broker.specs.Journal.{is_dropped}
 use Rattle.agent_slots.specs.Sessions.{Session, is_open, session_at}
 use Rattle.broker_task.specs.declared.outbox.Letter.{Letter}
@@ -25,9 +24,6 @@ is_shut_now s (IsAlone first last who n from to is rests long retired) = absurd 
 is_shut_now s (IsLeftAlone who side n from to is rests long) = absurd (omega (arith, long, no_session_rests_alone_lem who side n from to rests))
 
 module _ (honest : ℕ → Bool) (was now then : BrokerState) (r : RunLasts honest was now then) where
-  abbrev said : ℕ → List Message
-  said = r.stands.0.said
-
   at_rest : AreAtRest now.lines
   at_rest place line there up =
       let l = r.lines place line there up in
@@ -36,13 +32,13 @@ module _ (honest : ℕ → Bool) (was now then : BrokerState) (r : RunLasts hone
         core = l.core;
         page = empty.1 l.core l.between;
         greets = l.version;
-        old = line.end;
-        new = line.end;
+        old = line.port.end;
+        new = line.port.end;
         says = all_held l.greeted (subst (λ (letters : List Letter). AreHeld letters) (sym empty.0) tt) refl;
         still = tt;
       }
 
-  stands_still_so : (place : ℕ) → (d : DomainLasts was now then said r.lines place) → is_shut (view d.line.end).state ≡ false → DomainStandsStill now.hub now.awaited now.journal said now.lines at_rest place
+  stands_still_so : (place : ℕ) → (d : DomainLasts was now then r.lines place) → is_shut (view d.line.port.end).state ≡ false → DomainStandsStill now.hub now.awaited now.journal now.lines at_rest place
   unfolding at_rest
   stands_still_so place d up =
       let l = r.lines place d.line d.there up in
@@ -51,9 +47,7 @@ module _ (honest : ℕ → Bool) (was now then : BrokerState) (r : RunLasts hone
         line = d.line;
         there = d.there;
         up = up;
-        kept = d.kept;
-        heard = d.heard;
-        talks = d.talks up;
+        end = d.end up;
         task = d.task;
         domain = d.domain;
         count = d.count;
@@ -67,19 +61,19 @@ module _ (honest : ℕ → Bool) (was now then : BrokerState) (r : RunLasts hone
 
   -- the domain behind this place was dropped, or is honest and stands still
   abbrev StandsSo : ℕ → Type 0
-  StandsSo place = (is_dropped now.journal (place + 1) ≡ true) ⊎ ((honest (place + 1) ≡ true) × DomainStandsStill now.hub now.awaited now.journal said now.lines at_rest place)
+  StandsSo place = (is_dropped now.journal (place + 1) ≡ true) ⊎ ((honest (place + 1) ≡ true) × DomainStandsStill now.hub now.awaited now.journal now.lines at_rest place)
 
-  by_domain : (place : ℕ) → (is_dropped now.journal (place + 1) ≡ true) ⊎ ((honest (place + 1) ≡ true) × DomainLasts was now then said r.lines place) → StandsSo place
+  by_domain : (place : ℕ) → (is_dropped now.journal (place + 1) ≡ true) ⊎ ((honest (place + 1) ≡ true) × DomainLasts was now then r.lines place) → StandsSo place
   by_domain place (inl dropped) = inl dropped
-  by_domain place (inr lasts) = by_shut (is_shut (view lasts.1.line.end).state) refl
+  by_domain place (inr lasts) = by_shut (is_shut (view lasts.1.line.port.end).state) refl
     where
-      by_shut : (b : Bool) → is_shut (view lasts.1.line.end).state ≡ b → StandsSo place
+      by_shut : (b : Bool) → is_shut (view lasts.1.line.port.end).state ≡ b → StandsSo place
       by_shut true is = inl (r.stands.4 place lasts.1.line lasts.1.there ∙ is)
       by_shut false is = inr (lasts.0, stands_still_so place lasts.1 is)
 
   broker_done : ⊥
   broker_done =
-      r.stands.1 (runs_do_not_stand_still_lem now.hub honest now.awaited now.journal said now.lines r.stands.0.decided r.grown r.stands.3 r.stands.2 at_rest (λ place less. by_domain place (r.domains place less)))
+      r.stands.1 (runs_do_not_stand_still_lem now.hub honest now.awaited now.journal now.lines r.stands.0 r.grown r.stands.3 r.stands.2 r.stands.5 at_rest (λ place less. by_domain place (r.domains place less)))
 
 pub no_run_lasts_lem : NoRunLasts
 no_run_lasts_lem = broker_done

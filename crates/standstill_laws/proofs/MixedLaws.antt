@@ -82,7 +82,7 @@ module _ (hub : Domains) (honest : ℕ → Bool) (tasks : ℕ → Task) (broker 
       omega (arith, is, lines, count)
     where
       of_line : (place : ℕ) (line : BrokerLine) → IsAt broker.lines place line → work_with line ≤ at_broker run.pages place
-      of_line place line there = omega (arith, run.broker_has place line there, few_if (is_begun (view line.end).state), few_if (is_shut (view line.end).state))
+      of_line place line there = omega (arith, run.broker_has place line there, few_if (is_begun (view line.port.end).state), few_if (is_shut (view line.port.end).state))
 
   -- ---- the data pages
 

@@ -1,5 +1,5 @@
 -- A run with a hostile domain there is.
-use Rattle.std.proofs.Common.{◌≡◌, ℕ, zero, suc, ◌+◌, ◌<◌, true, false, List, [], ◌∷◌, map, if◌then◌else◌, Some, refl, sym, ◌∙◌, ap, subst, inl, inr, arith}
+use Rattle.std.proofs.Common.{◌≡◌, ℕ, zero, suc, ◌+◌, ◌<◌, true, false, List, [], ◌∷◌, length, map, if◌then◌else◌, Some, refl, sym, ◌∙◌, ap, subst, inl, inr, arith}
 use Rattle.std.specs.Prelude.{◌^◌, slice_get, IsPermutation}
 use Rattle.std.specs.List.{AllByRecursion as Each}
 use Rattle.std.proofs.lemmas.List.Sorted.{IsPermutation-refl, IsPermutation-swap}
@@ -234,6 +234,10 @@ all_free : (place : ℕ) → (plan_at place).places ≡ places_free (plan_at pla
 all_free zero = refl
 all_free (suc place) = refl
 
+as_many : (place : ℕ) → length (sessions_at place) ≡ length (plan_at place).places
+as_many zero = refl
+as_many (suc place) = refl
+
 none_begun : (place : ℕ) → Each (SessionStands (plan_at place).version) (sessions_at place)
 none_begun zero = (tt, (tt, tt))
 none_begun (suc place) = (tt, tt)
@@ -264,7 +268,7 @@ agent_stands : (orders : Orders) (start place : ℕ) → TellsSoFar (agent_at or
 unfolding spoken
 agent_stands orders start place = record {
   once = (spoken place).once;
-  acts = record { channel = channel_is orders start place; begun = all_free place; version = (spoken place).version; sessions = none_begun place; opened = tt };
+  acts = record { channel = channel_is orders start place; begun = all_free place; version = (spoken place).version; count = as_many place; sessions = none_begun place; opened = tt; pages = omega arith };
   waits = λ up. none_owed place;
 }
 
@@ -276,6 +280,7 @@ broker_stands orders start = (
   (λ place line at up. rw (all_alike (line_of orders start) line place at) (IsPermutation-refl [])),
   (λ place line at. rw (all_alike (line_of orders start) line place at) tt),
   (λ place line at. rw (all_alike (line_of orders start) line place at) refl),
+  (λ place line at. rw (all_alike (line_of orders start) line place at) (record { talker = refl; own = refl; says = record { each = tt; whole = (refl, refl) }; hears = λ up. refl })),
 )
   where
     unsettled : AreSettled the_hub (2 ∷ 0 ∷ 0 ∷ []) [] (λ d. []) → ⊥

@@ -66,11 +66,11 @@ all_are_held : (before after : List BrokerLine) (place : ℕ) (line : BrokerLine
 all_are_held before after place line r =
     held_before line.letters r.next.letters r.next.before (by_cause r.next_found.says.0 (can_say before after place line r r.next_found.says.0 r.next_found.says.1) r.next.says r.next_found.says.2)
   where
-    by_cause : (mid : Core) → CanSay mid → (says : SaysNothing r.new.version r.new.greeted r.next.letters r.next.heard r.new.end) → SaysNothingStill mid (record r.new { letters = r.next.letters }) r.next.heard r.new.end says → AreHeld r.next.letters
+    by_cause : (mid : Core) → CanSay mid → (says : SaysNothing r.new.port.version r.new.port.greeted r.next.letters r.next.heard r.new.port.end) → SaysNothingStill mid (record r.new { letters = r.next.letters }) r.next.heard r.new.port.end says → AreHeld r.next.letters
     by_cause mid can (has_not_greeted none same) still = let some : IsSome {T = ℕ} None = subst (λ (o : Option ℕ). IsSome o) none r.greets in cc some
     by_cause mid can (all_held greets held same) still = held
-    by_cause mid can (greeting_waits none same fails) still = absurd (fails_not mid Client can.room can.up (written (Hello broker_version)) r.next.heard r.new.end fails still)
-    by_cause mid can (letter_waits at l greets there ready before' same fails) still = absurd (fails_not mid Client can.room can.up (written l.message) r.next.heard r.new.end fails still)
+    by_cause mid can (greeting_waits none same fails) still = absurd (fails_not mid Client can.room can.up (written (Hello broker_version)) r.next.heard r.new.port.end fails still)
+    by_cause mid can (letter_waits at l greets there ready before' same fails) still = absurd (fails_not mid Client can.room can.up (written l.message) r.next.heard r.new.port.end fails still)
 
 -- ---- the law
 
@@ -94,5 +94,5 @@ outboxes_are_empty_lem before now after holds each place line there up = (none, 
           server_opened = not_shut r.first r.last core is Server r.server_up;
           client_opened = not_shut r.first r.last core is Client r.client_up;
           server_found = drain_found r.first r.last core r.rested is Server r.began r.heard r.not_yet r.agent_found;
-          client_found = broker_drained r.first r.last core r.rested is r.old.version r.turn.letters r.turn.hears.began r.turn.heard (none_before r.turn.letters line.letters r.turn.after none) r.turn.hears.finds r.turn_found.hears;
+          client_found = broker_drained r.first r.last core r.rested is r.old.port.version r.turn.letters r.turn.hears.began r.turn.heard (none_before r.turn.letters line.letters r.turn.after none) r.turn.hears.finds r.turn_found.hears;
         }

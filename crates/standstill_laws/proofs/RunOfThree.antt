@@ -31,7 +31,7 @@ use Rattle.task_duties.specs.Agent.Given.{AgentPlan}
 use Rattle.task_duties.specs.Hostile.Given.{HostilePlan}
 use Rattle.task_duties.specs.Hostile.Trail.{first_voice}
 use Rattle.task_duties.specs.TaskOwes.{EndAt, broker_ends}
-use Rattle.control_port.specs.declared.talk.Talker.TheVariants.{Agent as OfAgent}
+use Rattle.control_port.specs.declared.talk.Talker.TheVariants.{Agent as OfAgent, Broker as OfBroker}
 use Rattle.agent_queue.specs.Queue.{fresh}
 use Rattle.agent_control.specs.declared.control.AgentControl.{AgentControl}
 use Rattle.agent_slots.specs.Sessions.{Session, NotBegun}
@@ -143,9 +143,7 @@ agent_at orders start place = record { plan = plan_at place; ends = ends_at plac
 
 abbrev pub line_of : Orders → ℕ → BrokerLine
 line_of orders start = record {
-  end = new_end Client orders start Fresh;
-  version = None;
-  greeted = false;
+  port = record { end = new_end Client orders start Fresh; talker = OfBroker; own = 3; greeted = false; decoder = record { channel = OnControl; passed = 0; left = []; at = 0; fault = None }; version = None; fault = None };
   letters = [];
 }
 
@@ -158,7 +156,6 @@ broker_of orders start = record {
   awaited = 2 ∷ 0 ∷ 0 ∷ [];
   ends = broker_ends 1 (end_of.view ∷ end_of.view ∷ end_of.view ∷ []);
   journal = [];
-  controls = ends_of;
   lines = line_of orders start ∷ line_of orders start ∷ line_of orders start ∷ [];
 }
 

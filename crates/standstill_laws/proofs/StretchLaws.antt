@@ -171,14 +171,14 @@ EndStays old new = (length new.got ≡ length old.got) × (length new.sent ≡ l
 
 -- so is the broker's end at this place, by that of an earlier moment
 abbrev HasLine : ℕ → Side → Task → Type 0
-HasLine place side (Broker b) = (line : BrokerLine) × IsAt b.lines place line × EndStays side line.end.side
+HasLine place side (Broker b) = (line : BrokerLine) × IsAt b.lines place line × EndStays side line.port.end.side
 HasLine place side task = ⊥
 
-next_line : (old new : List BrokerLine) (place : ℕ) (line : BrokerLine) → EachPair Rests old new → IsAt old place line → (next : BrokerLine) × IsAt new place next × EndStays line.end.side next.end.side
+next_line : (old new : List BrokerLine) (place : ℕ) (line : BrokerLine) → EachPair Rests old new → IsAt old place line → (next : BrokerLine) × IsAt new place next × EndStays line.port.end.side next.port.end.side
 next_line [] new place line rests at = absurd (omega (arith, at.within))
 next_line (x ∷ old) [] place line rests at = absurd rests
 next_line (x ∷ old) (y ∷ new) zero line rests at =
-    (y, record { within = omega arith; is = refl }, subst (λ (l : BrokerLine). EndStays l.end.side y.end.side) (sym at.is) (rests.0.got, rests.0.sent, same_state (view x.end).state (view y.end).state rests.0.begun rests.0.shut))
+    (y, record { within = omega arith; is = refl }, subst (λ (l : BrokerLine). EndStays l.port.end.side y.port.end.side) (sym at.is) (rests.0.got, rests.0.sent, same_state (view x.port.end).state (view y.port.end).state rests.0.begun rests.0.shut))
 next_line (x ∷ old) (y ∷ new) (suc place) line rests at =
     let next = next_line old new place line rests.1 (record { within = omega (arith, at.within); is = at.is }) in
     (next.0, record { within = omega (arith, next.1.within); is = next.1.is }, next.2)
@@ -198,12 +198,12 @@ line_stays : (task last : Task) (place : ℕ) (before now : Side) → RestsOn ta
 line_stays task last place before now rests old new = by last (rests_keep (HasLine place before) (line_keeps place before) task last rests (has_line task place before old)) new
   where
     by : (last : Task) → HasLine place before last → HoldsLine last place now → EndStays before now
-    by (Broker b) has new = subst (λ (s : Side). EndStays before s) (ap (λ (l : BrokerLine). l.end.side) (at_one b.lines place has.0 new.0 has.1 new.1) ∙ new.2) has.2
+    by (Broker b) has new = subst (λ (s : Side). EndStays before s) (ap (λ (l : BrokerLine). l.port.end.side) (at_one b.lines place has.0 new.0 has.1 new.1) ∙ new.2) has.2
     by _ has new = absurd has
 
 -- the broker's end of a control page had the state before that it has after turns that did nothing
-pub line_state : (task : Task) (place : ℕ) (side : Side) (broker : BrokerState) (line : BrokerLine) → HoldsLine task place side → RestsOn task (Broker broker) → IsAt broker.lines place line → line.end.side.state ≡ side.state
-line_state task place side broker line holds rests there = (line_stays task (Broker broker) place side line.end.side rests holds (line, there, refl)).2
+pub line_state : (task : Task) (place : ℕ) (side : Side) (broker : BrokerState) (line : BrokerLine) → HoldsLine task place side → RestsOn task (Broker broker) → IsAt broker.lines place line → line.port.end.side.state ≡ side.state
+line_state task place side broker line holds rests there = (line_stays task (Broker broker) place side line.port.end.side rests holds (line, there, refl)).2
 
 pub control_pages_rest_lem : ControlPagesRest
 control_pages_rest_lem before now agent agent' broker broker' place moments hears says up old_agent old_line new_agent new_line =

@@ -1,6 +1,7 @@
 -- A stretch of turns that did nothing tells all by which a run would be over.
-use Rattle.std.proofs.Common.{◌≡◌, ◌⊎◌, ℕ, ◌+◌, ◌<◌, ◌≤◌, zero, suc, Bool, true, false, List, [], ◌∷◌, ◌++◌, Option, Some, None, refl, sym, ap, ◌∙◌, subst, arith, inl, inr}
+use Rattle.std.proofs.Common.{◌≡◌, ◌⊎◌, ℕ, ◌+◌, ◌<◌, ◌≤◌, zero, suc, Bool, true, false, List, [], ◌∷◌, ◌++◌, length, Option, Some, None, refl, sym, ap, ◌∙◌, subst, arith, inl, inr}
 use Rattle.std.specs.Prelude.{IsSome}
+use Rattle.std.proofs.lemmas.List.{length-map}
 use Rattle.std.proofs.Math.Bool.{Bool-set}
 use Rattle.std.proofs.lemmas.Option.{none-some, same_Some}
 use Rattle.std.specs.List.{AllZip as EachPair, AllByRecursion as Each}
@@ -8,12 +9,11 @@ use Rattle.list_laws.proofs.Each.{each_front, each_back}
 use Rattle.ring_words.specs.declared.page.Role.{Role}
 use Rattle.ring_words.specs.declared.page.Role.TheVariants.{Server, Client}
 use Rattle.vchan_protocol.specs.Answering.Loads.{loads_of}
-use Rattle.vchan_protocol.specs.History.Core.{standing_of}
+use Rattle.vchan_protocol.specs.History.Core.{standing_of, side_of}
 use Rattle.vchan_protocol.specs.History.Peer.{peer}
 use Rattle.vchan_protocol.specs.declared.call.EndState.{EndState}
 use Rattle.vchan_protocol.specs.declared.call.EndState.TheVariants.{Fresh, Open, Shut}
 use Rattle.vchan_rule.specs.Seated.{SeatedEnd, view}
-use Rattle.control_port.specs.declared.talk.Talker.TheVariants.{Broker as OfBroker}
 use Rattle.vchan_lifecycle.specs.Lifecycle.{FindsNotYet}
 use Rattle.call_broker.specs.Domains.{count_of}
 use Rattle.call_broker.specs.Journal.{is_dropped}
@@ -21,7 +21,7 @@ use Rattle.agent_control.specs.declared.control.AgentControl.{AgentControl}
 use Rattle.agent_slots.specs.Sessions.{Session, is_open, session_at}
 use Rattle.agent_task.specs.State.{AgentState}
 use Rattle.agent_task.specs.Moving.{SaysNoMore, HasNotGreeted, WasNotGreeted, HasStopped, TurnsChannel, asked_at_most}
-use Rattle.broker_task.specs.Given.{BrokerState}
+use Rattle.broker_task.specs.Given.{BrokerState, end_on}
 use Rattle.broker_task.specs.Letters.{IsAt}
 use Rattle.broker_task.specs.Lines.{is_begun, is_shut}
 use Rattle.broker_task.specs.Moving.{BrokerLine, HasTurned}
@@ -29,7 +29,6 @@ use Rattle.broker_task.specs.Holding.{ShutAreDropped}
 use Rattle.domain_task.specs.declared.task.Task.{Task}
 use Rattle.domain_task.specs.declared.task.Task.TheVariants.{Broker}
 use Rattle.domain_task.specs.Working.{IsStill, ChannelRests, IsUp, WasOver}
-use Rattle.standstill_laws.specs.Control.{Talks}
 use Rattle.standstill_laws.specs.Saying.{StopsStill}
 use Rattle.standstill_laws.specs.Standstill.{AsksForNone}
 use Rattle.standstill_laws.specs.Sessions.{IsGoneStill}
@@ -48,6 +47,7 @@ use Rattle.standstill_laws.proofs.MomentLaws.{each_role}
 use Rattle.standstill_laws.proofs.PaceLaws.{last_between, no_session_rests_lem}
 use Rattle.standstill_laws.proofs.IdleLaws.{all_nothing, AgentTurn, agent_turn, BrokerTurn, of_broker, same_broker, side_rests, few_alone, LineWas, LineWill, line_was, line_will, line_at}
 use Rattle.standstill_laws.proofs.HostileLaws.{heard_here}
+use Rattle.standstill_laws.proofs.StandstillLaws.{none_opened}
 use Rattle.standstill_laws.proofs.LastingLaws.{no_run_lasts_lem}
 
 -- ---- the last turn of an agent
@@ -120,10 +120,10 @@ session_shut pages many first now turns made idle IsPeer peers place i s long (I
 -- ---- a domain
 
 -- each end that the broker's turn left has begun, so one that isn't shut is open
-begun_at : (before after : List BrokerLine) (place : ℕ) (line : BrokerLine) → EachPair HasTurned before after → IsAt after place line → is_begun (view line.end).state ≡ true
+begun_at : (before after : List BrokerLine) (place : ℕ) (line : BrokerLine) → EachPair HasTurned before after → IsAt after place line → is_begun (view line.port.end).state ≡ true
 begun_at before [] place line each at = absurd (omega (arith, at.within))
 begun_at [] (y ∷ after) place line each at = absurd each
-begun_at (x ∷ before) (y ∷ after) zero line each at = subst (λ (l : BrokerLine). is_begun (view l.end).state ≡ true) (sym at.is) each.0.begun
+begun_at (x ∷ before) (y ∷ after) zero line each at = subst (λ (l : BrokerLine). is_begun (view l.port.end).state ≡ true) (sym at.is) each.0.begun
 begun_at (x ∷ before) (y ∷ after) (suc place) line each at = begun_at before after place line each.1 (record { within = omega (arith, at.within); is = at.is })
 
 open_is : (state : EndState) → is_begun state ≡ true → is_shut state ≡ false → state ≡ Open
@@ -132,12 +132,17 @@ open_is Open begun up = refl
 open_is Shut begun up = cc
 
 -- a domain that is gone was dropped: the broker's turn would have dropped it
-gone_shut : (pages : RunPages) (before broker : BrokerState) → BrokerTurn pages before broker → ShutAreDropped broker.journal broker.lines → (place : ℕ) (line : BrokerLine) → IsAt broker.lines place line → IsGone pages broker place → ¬ (is_shut (view line.end).state ≡ false)
+gone_shut : (pages : RunPages) (before broker : BrokerState) → BrokerTurn pages before broker → ShutAreDropped broker.journal broker.lines → (place : ℕ) (line : BrokerLine) → IsAt broker.lines place line → IsGone pages broker place → ¬ (is_shut (view line.port.end).state ≡ false)
 gone_shut pages before broker to shut place line there (WasDropped told) up = let bad : true ≡ false = sym told ∙ shut place line there ∙ up in cc
 gone_shut pages before broker to shut place line there (HasLeft at page left) up =
     let was = subst (λ (p : RunPage). LineWas p before.lines place line) page (line_was pages.control before.lines broker.lines to.rests to.found place line there) in
     let found = was.2.found up in
     left found.0 (heard_here (at found.0) was.0 line (was.2.rests.quiet up) found.1)
+
+-- an agent none of whose sessions is open might ask for a call
+asks_some : (pages : ℕ) → pages ≤ 0 → 0 < asked_at_most pages
+asks_some zero none = omega arith
+asks_some (suc pages) none = absurd (omega (arith, none))
 
 other_of : {A B : Type 0} → ¬ A → A ⊎ B → B
 other_of none (inl a) = absurd (none a)
@@ -151,6 +156,10 @@ module _ (honest : ℕ → Bool) (pages : RunPages) (first now last : ℕ → Ta
 
   abbrev many : ℕ
   many = count_of broker.hub + 1
+
+  -- a line for each domain
+  as_many : length broker.lines ≡ count_of broker.hub
+  as_many = sym (length-map broker.lines end_on) ∙ r.so.stands.0.count
 
   whole : AreMade many first (turns ++ next ∷ rest) last
   whole = made_both many first now last turns (next ∷ rest) r.made r.made_rest
@@ -172,12 +181,12 @@ module _ (honest : ℕ → Bool) (pages : RunPages) (first now last : ℕ → Ta
       subst (λ (b : BrokerState). BrokerTurn pages b r.so.then) (same_broker turn.0 broker (sym turn.1 ∙ was)) turn.2
 
   -- what the broker keeps of a domain that isn't shut
-  module _ (place : ℕ) (line : BrokerLine) (there : IsAt broker.lines place line) (up : is_shut (view line.end).state ≡ false) where
-    stays : (honest (place + 1) ≡ true) × DomainStays honest pages first now last broker r.so.then r.so.stands.0.said place line
+  module _ (place : ℕ) (line : BrokerLine) (there : IsAt broker.lines place line) (up : is_shut (view line.port.end).state ≡ false) where
+    stays : (honest (place + 1) ≡ true) × DomainStays honest pages first now last broker r.so.then place line
     stays = other_of (λ gone. gone_shut pages turn_to.0 broker turn_to.1 r.so.stands.4 place line there gone up) (r.so.domains place line there)
 
     mine : IsHonestAgent broker.hub honest place
-    mine = (omega (arith, there.within, r.so.lines), stays.0)
+    mine = (omega (arith, there.within, as_many), stays.0)
 
     -- the last turn of its agent before
     turned : AgentTurn pages place stays.1.task
@@ -188,7 +197,7 @@ module _ (honest : ℕ → Bool) (pages : RunPages) (first now last : ℕ → Ta
     began =
         let rests = stretches_rest_lem many first now turns r.made (all_nothing pages turns idle_before) 0 in
         let same = line_state (first 0) place stays.1.span.first.client broker line stays.1.broker_first (subst (λ (t : Task). RestsOn (first 0) t) r.so.is rests) there in
-        sym same ∙ open_is (view line.end).state (begun_at turn_to.0.lines broker.lines place line turn_to.1.turned there) up
+        sym same ∙ open_is (view line.port.end).state (begun_at turn_to.0.lines broker.lines place line turn_to.1.turned there) up
 
     rested : PageRested stays.1.span.first stays.1.span.last
     rested =
@@ -196,13 +205,25 @@ module _ (honest : ℕ → Bool) (pages : RunPages) (first now last : ℕ → Ta
         let rests = stretches_rest_lem many first last (turns ++ next ∷ rest) whole (all_nothing pages (turns ++ next ∷ rest) r.so.idle) in
         control_pages_rest_lem d.span.first d.span.last (first (place + 1)) (last (place + 1)) (first 0) (last 0) place d.moments (rests (place + 1)) (rests 0) began d.agent_first d.broker_first d.agent_last d.broker_last
 
+    -- none of its agent's sessions is open, so it might ask for a call
+    all_shut : (i : ℕ) → is_open (session_at stays.1.task.sessions i) ≡ false
+    all_shut i =
+        session_shut pages many first last (turns ++ next ∷ rest) whole r.so.idle (IsHonestAgent broker.hub honest) r.agents_turned_on place i (session_at stays.1.task.sessions i) (r.agents_turned_on place mine) (stays.1.sessions i)
+
+    may_ask : 0 < asked_at_most stays.1.task.pages
+    may_ask =
+        let task = stays.1.task in
+        let acts = stays.1.agent.tells.acts in
+        let none = none_opened task task.opened acts.opened all_shut in
+        asks_some task.pages (omega (arith, acts.pages, ap (λ (l : List (ℕ × ℕ)). length l) none))
+
     line_lasts : LineLasts turn_to.0.lines r.so.then.lines place line
     line_lasts =
         let d = stays.1 in
         let was = subst (λ (p : RunPage). LineWas p turn_to.0.lines place line) d.control (line_was pages.control turn_to.0.lines broker.lines turn_to.1.rests turn_to.1.found place line there) in
         let will = subst (λ (p : RunPage). LineWill p r.so.then.lines place line) d.control (line_will pages.control broker.lines r.so.then.lines turn_from.rests turn_from.found place line there) in
         let drain = agent_drain d.span turned.before d.task turned.rests.channel (subst (λ (p : RunPage). ChannelFound p turned.before d.task turned.rests.channel) d.control turned.found.heard) d.agent.up in
-        let new_up : is_shut (view will.0.end).state ≡ false = will.2.rests.shut ∙ up in
+        let new_up : is_shut (view will.0.port.end).state ≡ false = will.2.rests.shut ∙ up in
         record {
           rests = record {
             old = was.0;
@@ -232,42 +253,39 @@ module _ (honest : ℕ → Bool) (pages : RunPages) (first now last : ℕ → Ta
         }
 
   abbrev Lasts : ℕ → Type 0
-  Lasts place = (honest (place + 1) ≡ true) × DomainLasts turn_to.0 broker r.so.then r.so.stands.0.said line_lasts place
+  Lasts place = (honest (place + 1) ≡ true) × DomainLasts turn_to.0 broker r.so.then line_lasts place
 
-  domain_lasts : (place : ℕ) (line : BrokerLine) (there : IsAt broker.lines place line) → is_shut (view line.end).state ≡ false → Lasts place
+  domain_lasts : (place : ℕ) (line : BrokerLine) (there : IsAt broker.lines place line) → is_shut (view line.port.end).state ≡ false → Lasts place
   unfolding line_lasts
   domain_lasts place line there up =
       let d = (stays place line there up).1 in
-      let lasts : (u : is_shut (view line.end).state ≡ false) → LineLasts turn_to.0.lines r.so.then.lines place line = line_lasts place line there in
+      let lasts : (u : is_shut (view line.port.end).state ≡ false) → LineLasts turn_to.0.lines r.so.then.lines place line = line_lasts place line there in
       let turned = turned place line there up in
-      let stops = agent_stops d.span d.task.pages turned.before.channel d.task.channel (turned.turns.1.2 d.agent.up) (subst (λ (p : RunPage). SaidFound p d.task.pages turned.before.channel d.task.channel (turned.turns.1.2 d.agent.up)) d.control (turned.found.said d.agent.up)) d.may_ask turned.found.asks_none d.agent.channel d.agent.channel_is d.agent_greeted d.agent_version in (
+      let stops = agent_stops d.span d.task.pages turned.before.channel d.task.channel (turned.turns.1.2 d.agent.up) (subst (λ (p : RunPage). SaidFound p d.task.pages turned.before.channel d.task.channel (turned.turns.1.2 d.agent.up)) d.control (turned.found.said d.agent.up)) (may_ask place line there up) turned.found.asks_none d.agent.channel d.agent.channel_is d.agent_greeted d.agent_version in (
         (stays place line there up).0,
         record {
           line = line;
           there = there;
-          kept = d.kept;
-          heard = d.heard;
-          talks = λ is. subst (λ u. Talks (lasts u).core Client OfBroker d.kept.port (r.so.stands.0.said (place + 1)) d.heard) (Bool-set (is_shut (view line.end).state) false up is) d.talks;
+          end = λ is. subst (λ u. line.port.end.side ≡ side_of (lasts u).core Client) (Bool-set (is_shut (view line.port.end).state) false up is) d.end;
           task = d.task;
           domain = d.domain;
           count = d.count;
-          agent = λ is. subst (λ u. AgentLasts broker.hub broker.journal (lasts u).rests.first (lasts u).rests.last (lasts u).core d.task) (Bool-set (is_shut (view line.end).state) false up is) (record {
+          agent = λ is. subst (λ u. AgentLasts broker.hub broker.journal (lasts u).rests.first (lasts u).rests.last (lasts u).core d.task) (Bool-set (is_shut (view line.port.end).state) false up is) (record {
             is_up = d.agent;
             asks = stops.asks;
             found = stops.found;
-            sessions = λ i.
-                StaysShut (session_shut pages many first last (turns ++ next ∷ rest) whole r.so.idle (IsHonestAgent broker.hub honest) r.agents_turned_on place i (session_at d.task.sessions i) (r.agents_turned_on place (mine place line there up)) (d.sessions i));
+            sessions = λ i. StaysShut (all_shut place line there up i);
           });
         },
       )
 
   by_place : (place : ℕ) → place < count_of broker.hub → (is_dropped broker.journal (place + 1) ≡ true) ⊎ Lasts place
-  by_place place less = by_shut (is_shut (view at.0.end).state) refl
+  by_place place less = by_shut (is_shut (view at.0.port.end).state) refl
     where
       at : (line : BrokerLine) × IsAt broker.lines place line
-      at = line_at broker.lines place (omega (arith, less, r.so.lines))
+      at = line_at broker.lines place (omega (arith, less, as_many))
 
-      by_shut : (b : Bool) → is_shut (view at.0.end).state ≡ b → (is_dropped broker.journal (place + 1) ≡ true) ⊎ Lasts place
+      by_shut : (b : Bool) → is_shut (view at.0.port.end).state ≡ b → (is_dropped broker.journal (place + 1) ≡ true) ⊎ Lasts place
       by_shut true is = inl (r.so.stands.4 place at.0 at.1 ∙ is)
       by_shut false is = inr (domain_lasts place at.0 at.1 is)
 

@@ -15,13 +15,14 @@ use Rattle.control_port.specs.Port.{PortState}
 use Rattle.control_port.specs.declared.talk.Talker.TheVariants.{Agent, Broker}
 use Rattle.task_duties.specs.Broker.Outbox.{outbox, read_from}
 use Rattle.task_duties.specs.Broker.Owes.{broker_version}
+use Rattle.broker_task.specs.Given.{end_on}
 use Rattle.broker_task.specs.Letters.{IsAt}
 use Rattle.broker_task.specs.Lines.{is_shut}
 use Rattle.broker_task.specs.Moving.{BrokerLine}
 use Rattle.broker_task.specs.Holding.{HoldsForExecs, NoneIsLost}
 use Rattle.broker_task.specs.Standing.{IsAttended}
 use Rattle.standstill_laws.specs.Control.{Talks}
-use Rattle.standstill_laws.specs.Letters.{IsPortOf, AreAtRest}
+use Rattle.standstill_laws.specs.Letters.{AreAtRest}
 
 -- whether an event, or a message to the broker, asks for a call by this ident
 abbrev pub asks : List ℕ → Event → Bool
@@ -48,6 +49,6 @@ EachTriggerIsAnswered =
 -- where the control page of each domain that wasn't dropped stands still, the agent of each has heard as many answers by each ident as it sent triggers
 abbrev pub AllCallsAreAnswered : Type 0
 AllCallsAreAnswered = (hub : Domains) (journal : List Entry) (said : ℕ → List Message) (lines : List BrokerLine) → IsJournal hub journal → HoldsForExecs lines → NoneIsLost hub journal said lines → (rest : AreAtRest lines)
-    → (place : ℕ) (line : BrokerLine) (there : IsAt lines place line) (up : is_shut (view line.end).state ≡ false) → is_dropped journal (place + 1) ≡ false
-    → (a b : PortState) (said_a heard_a heard_b : List Message) → IsPortOf line b → b.own ≡ broker_version → IsAttended hub journal said (place + 1) (record { view = view b.end; gone = b.end.side.notes.gone })
-    → Talks (rest place line there up).core Server Agent a said_a heard_a → Talks (rest place line there up).core Client Broker b (said (place + 1)) heard_b → (name : List ℕ) → count_by (is_answer name) heard_a ≡ count_by (is_trigger name) said_a
+    → (place : ℕ) (line : BrokerLine) (there : IsAt lines place line) (up : is_shut (view line.port.end).state ≡ false) → is_dropped journal (place + 1) ≡ false
+    → (a : PortState) (said_a heard_a heard_b : List Message) → line.port.own ≡ broker_version → IsAttended hub journal said (place + 1) (end_on line)
+    → Talks (rest place line there up).core Server Agent a said_a heard_a → Talks (rest place line there up).core Client Broker line.port (said (place + 1)) heard_b → (name : List ℕ) → count_by (is_answer name) heard_a ≡ count_by (is_trigger name) said_a

@@ -1,6 +1,6 @@
 -- An agent none of whose sessions is open, where its control page stands still.
 -- Source: the messages are those of the qrexec protocol; the statement is this project's own.
-use Rattle.std.specs.Prelude.{◌≡◌, ℕ, false, List, [], length, map, filter_map, slice_get, Some, None, IsPermutation}
+use Rattle.std.specs.Prelude.{◌≡◌, ℕ, false, List, [], map, filter_map, slice_get, Some, None, IsPermutation}
 use Rattle.std.specs.List.{count_by, AllByRecursion as Each}
 use Rattle.list_laws.specs.Lists.{AreDifferent}
 use Rattle.qrexec_frame.specs.declared.message.Message.{Message}
@@ -43,5 +43,5 @@ AgentsHaveAskedAll = (task : AgentState) (t : TellsSoFar task) (c : AgentControl
 
 -- no session begins, if nothing came on the control channel and each session that had begun took its turn
 abbrev pub NoSessionBegins : Type 0
-NoSessionBegins = (old new : AgentState) → TellsSoFar old → TellsSoFar new → new.plan ≡ old.plan → new.control.got ≡ old.control.got → length old.sessions ≡ length old.plan.places → length new.sessions ≡ length old.plan.places
+NoSessionBegins = (old new : AgentState) → TellsSoFar old → TellsSoFar new → new.plan ≡ old.plan → new.control.got ≡ old.control.got
     → TurnsEach old.sessions new.sessions → (i : ℕ) → session_at old.sessions i ≡ NotBegun → session_at new.sessions i ≡ NotBegun

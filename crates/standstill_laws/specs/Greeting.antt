@@ -14,7 +14,6 @@ use Rattle.broker_task.specs.Moving.{BrokerLine, SaysNothing}
 use Rattle.standstill_laws.specs.Page.{IsStillPage}
 use Rattle.standstill_laws.specs.Control.{Talks}
 use Rattle.standstill_laws.specs.Saying.{FailsStill, SaysNothingStill}
-use Rattle.standstill_laws.specs.Letters.{IsPortOf}
 
 -- if an agent's greeting couldn't be sent, why is still so
 abbrev pub GreetsStill : Core → (old new : PortState) → Greets old new → Type 0
@@ -34,16 +33,14 @@ pub record AgentGreets (core : Core) (a : PortState) : Type 0 where
   -- no byte that was sent by then was taken back
   pub kept : length (view new.end).sent ≤ length (view a.end).sent
 
--- the broker, which has this port of the domain now, said nothing to it in a turn, for a reason that is still so
-pub record BrokerSaysNothing (core : Core) (b : PortState) : Type 0 where
-  pub line : BrokerLine
-  pub port_is : IsPortOf line b
+-- the broker, which keeps this of the domain now, said nothing to it in a turn, for a reason that is still so
+pub record BrokerSaysNothing (core : Core) (line : BrokerLine) : Type 0 where
   -- its end after it heard the domain, and before it might say something
   pub heard : SeatedEnd
-  pub says : SaysNothing line.version line.greeted line.letters heard line.end
-  pub still : SaysNothingStill core line heard line.end says
+  pub says : SaysNothing line.port.version line.port.greeted line.letters heard line.port.end
+  pub still : SaysNothingStill core line heard line.port.end says
 
 -- where the control page stands still after that, both have greeted, and each has read the other's greeting
 abbrev pub GreetingsAreRead : Type 0
-GreetingsAreRead = (core : Core) (a b : PortState) (said_a heard_a said_b heard_b : List Message) → IsStillPage core → Talks core Server Agent a said_a heard_a → Talks core Client Broker b said_b heard_b
-    → AgentGreets core a → BrokerSaysNothing core b → (a.greeted ≡ true) × IsSome b.version × (b.greeted ≡ true) × IsSome a.version
+GreetingsAreRead = (core : Core) (a : PortState) (line : BrokerLine) (said_a heard_a said_b heard_b : List Message) → IsStillPage core → Talks core Server Agent a said_a heard_a → Talks core Client Broker line.port said_b heard_b
+    → AgentGreets core a → BrokerSaysNothing core line → (a.greeted ≡ true) × IsSome line.port.version × (line.port.greeted ≡ true) × IsSome a.version

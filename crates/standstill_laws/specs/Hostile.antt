@@ -41,7 +41,7 @@ NoSessionRestsAlone = (who side : Role) (n : ℕ) (from to : SideAt side) → Si
 -- a domain has left its control page, the broker's turn heard nothing from it and said nothing to it, and the gone word that it loaded is that of the page: then the domain is dropped
 abbrev pub LeftAreDropped : Type 0
 LeftAreDropped = (core : Core) (old new : BrokerLine) → PeerHasLeft core Client → HasTurned old new → ¬ HasMoved old new → ((q : IsQuiet old new) → IsGoneStill core Client (loads_of (standing_of q.hears.began.side) q.heard.side.trail))
-    → is_shut (view new.end).state ≡ true
+    → is_shut (view new.port.end).state ≡ true
 
 -- ---- the hostile domains themselves
 

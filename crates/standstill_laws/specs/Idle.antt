@@ -96,9 +96,9 @@ pub record AgentFound (pages : RunPages) (place : ℕ) (before now : AgentState)
 
 -- of a domain that it hasn't dropped; of a hostile one only that the gone word which it loaded was that of the page
 abbrev pub LineFound : RunPage → (old new : BrokerLine) → Rests old new → Type 0
-LineFound (OfHonest span) old new rests = (up : is_shut (view new.end).state ≡ false) → LineBetween span.first span.last old new (rests.quiet up)
+LineFound (OfHonest span) old new rests = (up : is_shut (view new.port.end).state ≡ false) → LineBetween span.first span.last old new (rests.quiet up)
 LineFound (OfHostile who at) old new rests =
-    (up : is_shut (view new.end).state ≡ false) → (n : ℕ) × IsGoneStill (at n) who (loads_of (standing_of (rests.quiet up).hears.began.side) (rests.quiet up).heard.side.trail)
+    (up : is_shut (view new.port.end).state ≡ false) → (n : ℕ) × IsGoneStill (at n) who (loads_of (standing_of (rests.quiet up).hears.began.side) (rests.quiet up).heard.side.trail)
 
 -- of each domain, from the one behind this place on
 abbrev pub LinesFound : (ℕ → RunPage) → ℕ → (old new : List BrokerLine) → EachPair Rests old new → Type 0

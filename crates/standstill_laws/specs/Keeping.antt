@@ -38,7 +38,7 @@ pub record KeepsFindings (before now : Core) : Type 0 where
   pub peer_shut : (who : Role) → FoundPeerShut before who → FoundPeerShut now who
   -- so is why an agent stopped, and why the broker said nothing
   pub stops : (calls : ℕ) (old new : AgentControl) (s : Stops calls old new) → StopsStill before calls old new s → StopsStill now calls old new s
-  pub says_nothing : (line : BrokerLine) (old new : SeatedEnd) (s : SaysNothing line.version line.greeted line.letters old new) → SaysNothingStill before line old new s → SaysNothingStill now line old new s
+  pub says_nothing : (line : BrokerLine) (old new : SeatedEnd) (s : SaysNothing line.port.version line.port.greeted line.letters old new) → SaysNothingStill before line old new s → SaysNothingStill now line old new s
 
 abbrev pub FindingsStay : Type 0
 FindingsStay = (before now : Core) → Lawful before → Lawful now → PageRested before now → KeepsFindings before now

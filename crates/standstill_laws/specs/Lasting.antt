@@ -6,13 +6,11 @@ use Rattle.ring_words.specs.declared.page.Role.TheVariants.{Client}
 use Rattle.vchan_protocol.specs.History.Core.{Core, side_of}
 use Rattle.vchan_protocol.specs.History.Peer.{peer}
 use Rattle.vchan_rule.specs.Seated.{view}
-use Rattle.qrexec_frame.specs.declared.message.Message.{Message}
 use Rattle.call_broker.specs.declared.decision.Entry.{Entry}
 use Rattle.call_broker.specs.Domains.{Domains, count_of}
 use Rattle.call_broker.specs.Journal.{is_dropped}
 use Rattle.task_duties.specs.Broker.Owes.{awaited_of}
 use Rattle.task_duties.specs.declared.ends.TaskTurn.TheVariants as own
-use Rattle.control_port.specs.declared.talk.Talker.TheVariants.{Broker}
 use Rattle.agent_slots.specs.Sessions.{Session, is_open, session_at}
 use Rattle.agent_task.specs.State.{AgentState}
 use Rattle.broker_task.specs.Given.{BrokerState}
@@ -20,10 +18,9 @@ use Rattle.broker_task.specs.Letters.{IsAt}
 use Rattle.broker_task.specs.Lines.{is_shut}
 use Rattle.broker_task.specs.Moving.{BrokerLine}
 use Rattle.broker_task.specs.Turns.{StandsAfter}
-use Rattle.standstill_laws.specs.Control.{Talks}
 use Rattle.standstill_laws.specs.Saying.{StopsStill}
 use Rattle.standstill_laws.specs.Order.{HasGrown}
-use Rattle.standstill_laws.specs.Standstill.{AgentIsUp, AsksForNone, PortStands}
+use Rattle.standstill_laws.specs.Standstill.{AgentIsUp, AsksForNone}
 use Rattle.standstill_laws.specs.Sides.{SideAt, session_with, SideRests}
 use Rattle.standstill_laws.specs.Stretch.{AreMoments}
 use Rattle.standstill_laws.specs.Moments.{IsBetween, WasSo}
@@ -50,27 +47,25 @@ pub record LineLasts (before after : List BrokerLine) (place : ℕ) (line : Brok
   pub rests : LineRests before after place line
   pub core : Core
   pub between : IsBetween rests.first rests.last core
-  pub greeted : line.greeted ≡ true
-  pub version : IsSome line.version
+  pub greeted : line.port.greeted ≡ true
+  pub version : IsSome line.port.version
 
--- the domain behind this place: the port of what the broker keeps of it, and its agent, on its control page, whose end isn't shut unless the domain was dropped
-pub record DomainLasts (was now then : BrokerState) (said : ℕ → List Message) (lines : (place : ℕ) (line : BrokerLine) → IsAt now.lines place line → is_shut (view line.end).state ≡ false → LineLasts was.lines then.lines place line) (place : ℕ) : Type 0 where
+-- the domain behind this place: what the broker keeps of it, and its agent, on its control page, whose end isn't shut unless the domain was dropped
+pub record DomainLasts (was now then : BrokerState) (lines : (place : ℕ) (line : BrokerLine) → IsAt now.lines place line → is_shut (view line.port.end).state ≡ false → LineLasts was.lines then.lines place line) (place : ℕ) : Type 0 where
   pub line : BrokerLine
   pub there : IsAt now.lines place line
-  pub kept : PortStands now.hub now.journal said place line
-  pub heard : List Message
-  pub talks : (up : is_shut (view line.end).state ≡ false) → Talks (lines place line there up).core Client Broker kept.port (said (place + 1)) heard
+  pub end : (up : is_shut (view line.port.end).state ≡ false) → line.port.end.side ≡ side_of (lines place line there up).core Client
   pub task : AgentState
   pub domain : task.plan.domain ≡ place + 1
   pub count : length task.plan.calls ≡ awaited_of now.awaited (place + 1)
-  pub agent : (up : is_shut (view line.end).state ≡ false) → AgentLasts now.hub now.journal (lines place line there up).rests.first (lines place line there up).rests.last (lines place line there up).core task
+  pub agent : (up : is_shut (view line.port.end).state ≡ false) → AgentLasts now.hub now.journal (lines place line there up).rests.first (lines place line there up).rests.last (lines place line there up).core task
 
 -- the broker went on after a turn, and that turn and its next one did nothing; between the two each domain was dropped, or is honest and stood so
 pub record RunLasts (honest : ℕ → Bool) (was now then : BrokerState) : Type 0 where
   pub stands : StandsAfter (own.Again now)
   pub grown : HasGrown now.hub honest now.journal
-  pub lines : (place : ℕ) (line : BrokerLine) → IsAt now.lines place line → is_shut (view line.end).state ≡ false → LineLasts was.lines then.lines place line
-  pub domains : (place : ℕ) → place < count_of now.hub → (is_dropped now.journal (place + 1) ≡ true) ⊎ ((honest (place + 1) ≡ true) × DomainLasts was now then stands.0.said lines place)
+  pub lines : (place : ℕ) (line : BrokerLine) → IsAt now.lines place line → is_shut (view line.port.end).state ≡ false → LineLasts was.lines then.lines place line
+  pub domains : (place : ℕ) → place < count_of now.hub → (is_dropped now.journal (place + 1) ≡ true) ⊎ ((honest (place + 1) ≡ true) × DomainLasts was now then lines place)
 
 -- there is no such run: the broker would have been done
 abbrev pub NoRunLasts : Type 0

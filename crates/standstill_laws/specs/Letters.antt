@@ -22,33 +22,27 @@ use Rattle.standstill_laws.specs.Saying.{SaysNothingStill}
 pub record IsAtRest (line : BrokerLine) : Type 0 where
   pub core : Core
   pub page : IsStillPage core
-  pub greets : IsSome line.version
+  pub greets : IsSome line.port.version
   pub old : SeatedEnd
   pub new : SeatedEnd
-  pub says : SaysNothing line.version line.greeted line.letters old new
+  pub says : SaysNothing line.port.version line.port.greeted line.letters old new
   pub still : SaysNothingStill core line old new says
 
 -- each domain that wasn't dropped is at rest
 abbrev pub AreAtRest : List BrokerLine → Type 0
-AreAtRest lines = (place : ℕ) (line : BrokerLine) → IsAt lines place line → is_shut (view line.end).state ≡ false → IsAtRest line
+AreAtRest lines = (place : ℕ) (line : BrokerLine) → IsAt lines place line → is_shut (view line.port.end).state ≡ false → IsAtRest line
 
 -- then no letter waits for any of them, and all that the journal puts into its outbox was said to it
 abbrev pub AllAnswersAreSaid : Type 0
 AllAnswersAreSaid = (hub : Domains) (journal : List Entry) (said : ℕ → List Message) (lines : List BrokerLine) → HoldsForExecs lines → NoneIsLost hub journal said lines → AreAtRest lines
-    → (place : ℕ) (line : BrokerLine) → IsAt lines place line → is_shut (view line.end).state ≡ false
+    → (place : ℕ) (line : BrokerLine) → IsAt lines place line → is_shut (view line.port.end).state ≡ false
     → (line.letters ≡ []) × IsPermutation (said (place + 1)) (outbox hub journal (place + 1))
 
 -- ---- and what was heard
 
--- the broker's port of a domain
-pub record IsPortOf (line : BrokerLine) (b : PortState) : Type 0 where
-  pub end : b.end ≡ line.end
-  pub greeted : b.greeted ≡ line.greeted
-  pub version : b.version ≡ line.version
-
 -- and each of their agents has heard just what the journal puts there: the answer to each of its triggers, and each Exec
 abbrev pub AllAnswersAreHeard : Type 0
 AllAnswersAreHeard = (hub : Domains) (journal : List Entry) (said : ℕ → List Message) (lines : List BrokerLine) → HoldsForExecs lines → NoneIsLost hub journal said lines → (rest : AreAtRest lines)
-    → (place : ℕ) (line : BrokerLine) (there : IsAt lines place line) (up : is_shut (view line.end).state ≡ false)
-    → (a b : PortState) (said_a heard_a heard_b : List Message) → IsPortOf line b → Talks (rest place line there up).core Server Agent a said_a heard_a → Talks (rest place line there up).core Client Broker b (said (place + 1)) heard_b
+    → (place : ℕ) (line : BrokerLine) (there : IsAt lines place line) (up : is_shut (view line.port.end).state ≡ false)
+    → (a : PortState) (said_a heard_a heard_b : List Message) → Talks (rest place line there up).core Server Agent a said_a heard_a → Talks (rest place line there up).core Client Broker line.port (said (place + 1)) heard_b
     → IsPermutation heard_a (outbox hub journal (place + 1))

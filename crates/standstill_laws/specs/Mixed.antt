@@ -27,7 +27,7 @@ use Rattle.task_duties.specs.Hostile.Given.{HostilePlan}
 use Rattle.task_duties.specs.Hostile.Stores.{orders_at}
 use Rattle.agent_slots.specs.Sessions.{Session}
 use Rattle.agent_task.specs.State.{AgentState, TellsSoFar}
-use Rattle.broker_task.specs.Given.{BrokerState}
+use Rattle.broker_task.specs.Given.{BrokerState, ends_now}
 use Rattle.broker_task.specs.Letters.{IsAt}
 use Rattle.broker_task.specs.Lines.{BrokerEnd}
 use Rattle.broker_task.specs.Moving.{BrokerLine}
@@ -149,7 +149,7 @@ pub record IsMixedRun (hub : Domains) (honest : ℕ → Bool) (tasks : ℕ → T
   -- no more bytes came and went in a task than on its ends; while it goes on, just these
   pub agent_has : (place : ℕ) → place < count_of hub → honest (place + 1) ≡ true → bytes_of (agents place).channel ≤ length (pages place).server.got + length (pages place).server.sent
   pub count : length broker.lines ≡ count_of hub
-  pub broker_has : (place : ℕ) (line : BrokerLine) → IsAt broker.lines place line → bytes_on line.end ≤ length (pages place).client.got + length (pages place).client.sent
+  pub broker_has : (place : ℕ) (line : BrokerLine) → IsAt broker.lines place line → bytes_on line.port.end ≤ length (pages place).client.got + length (pages place).client.sent
   -- the data pages between honest domains, and those between an honest domain and the hostile one behind each place, which lie where its plan says, each at a place of its own, as a scenario lays them
   pub data_pages : List DataPage
   pub are : Each IsDataPage data_pages
@@ -203,7 +203,7 @@ pub record IsRunOfThree (orders : Orders) (start : ℕ) (hub : Domains) (honest 
   -- what contracts say of where each task stands after a turn holds of it, and its ends are those of the run's pages
   pub broker_stands : StandsAfter (Again broker)
   pub journal_is : run.journal ≡ broker.journal
-  pub broker_ends : run.ends ≡ broker.controls
+  pub broker_ends : run.ends ≡ ends_now broker
   pub agents_stand : (place : ℕ) → place < 3 → honest (place + 1) ≡ true → TellsSoFar (agents place)
   pub agents_got : (place : ℕ) → place < 3 → honest (place + 1) ≡ true → (agents place).control.got ≡ (run.pages place).server.got
   pub agents_sent : (place : ℕ) → place < 3 → honest (place + 1) ≡ true → (agents place).control.sent ≡ (run.pages place).server.sent

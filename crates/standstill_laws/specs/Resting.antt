@@ -33,8 +33,8 @@ HearsBetween first last version letters began heard (inr full) = Unit {0}
 
 -- and so was why the broker said nothing to it, while the letters of the turn waited
 pub record LineBetween (first last : Core) (old new : BrokerLine) (q : IsQuiet old new) : Type 0 where
-  pub hears : HearsBetween first last old.version q.letters q.hears.began q.heard q.hears.finds
-  pub says : WasSo first last (λ core. SaysNothingStill core (record new { letters = q.letters }) q.heard new.end q.says)
+  pub hears : HearsBetween first last old.port.version q.letters q.hears.began q.heard q.hears.finds
+  pub says : WasSo first last (λ core. SaysNothingStill core (record new { letters = q.letters }) q.heard new.port.end q.says)
 
 -- ---- two turns of the broker
 
@@ -45,7 +45,7 @@ pub record LineRests (before after : List BrokerLine) (place : ℕ) (line : Brok
   pub new : BrokerLine
   pub is : IsAt after place new
   -- it has greeted
-  pub greets : IsSome new.version
+  pub greets : IsSome new.port.version
   pub turn : IsQuiet old line
   pub next : IsQuiet line new
   -- its control page, on which nothing came or went between two moments, and neither of whose ends is shut
@@ -65,5 +65,5 @@ pub record LineRests (before after : List BrokerLine) (place : ℕ) (line : Brok
 
 -- no letter waits between the two turns for any domain that wasn't dropped, and each of their control pages stands still, if a letter that is held is so for an Exec that waits (`HoldsForExecs`)
 abbrev pub OutboxesAreEmpty : Type 0
-OutboxesAreEmpty = (before now after : List BrokerLine) → HoldsForExecs now → (each : (place : ℕ) (line : BrokerLine) → IsAt now place line → is_shut (view line.end).state ≡ false → LineRests before after place line)
-    → (place : ℕ) (line : BrokerLine) (there : IsAt now place line) (up : is_shut (view line.end).state ≡ false) → (line.letters ≡ []) × ((core : Core) → IsBetween (each place line there up).first (each place line there up).last core → IsStillPage core)
+OutboxesAreEmpty = (before now after : List BrokerLine) → HoldsForExecs now → (each : (place : ℕ) (line : BrokerLine) → IsAt now place line → is_shut (view line.port.end).state ≡ false → LineRests before after place line)
+    → (place : ℕ) (line : BrokerLine) (there : IsAt now place line) (up : is_shut (view line.port.end).state ≡ false) → (line.letters ≡ []) × ((core : Core) → IsBetween (each place line there up).first (each place line there up).last core → IsStillPage core)

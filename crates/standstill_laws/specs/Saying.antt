@@ -58,7 +58,7 @@ StopsStill core calls old new (AtTheLimit none next) = Unit {0}
 StopsStill core calls old new (AtATrigger none back) = HoldsBackStill core old new back
 
 -- and why the broker said nothing to a domain, of which it keeps this
-abbrev pub SaysNothingStill : Core → (line : BrokerLine) → (old new : SeatedEnd) → SaysNothing line.version line.greeted line.letters old new → Type 0
+abbrev pub SaysNothingStill : Core → (line : BrokerLine) → (old new : SeatedEnd) → SaysNothing line.port.version line.port.greeted line.letters old new → Type 0
 SaysNothingStill core line old new (has_not_greeted none same) = Unit {0}
 SaysNothingStill core line old new (all_held greets held same) = Unit {0}
 SaysNothingStill core line old new (greeting_waits none same fails) = FailsStill core Client (written (Hello broker_version)) old new fails
@@ -71,5 +71,5 @@ AgentsHaveSaidAll = (core : Core) (calls : ℕ) (old new : AgentControl) → IsS
 
 -- and the broker has said all that it may: the domain hasn't greeted, or each letter for it is held
 abbrev pub BrokerHasSaidAll : Type 0
-BrokerHasSaidAll = (core : Core) (line : BrokerLine) (old new : SeatedEnd) → IsStillPage core → (s : SaysNothing line.version line.greeted line.letters old new) → SaysNothingStill core line old new s
-    → (line.version ≡ None) ⊎ ((line.greeted ≡ true) × AreHeld line.letters)
+BrokerHasSaidAll = (core : Core) (line : BrokerLine) (old new : SeatedEnd) → IsStillPage core → (s : SaysNothing line.port.version line.port.greeted line.letters old new) → SaysNothingStill core line old new s
+    → (line.port.version ≡ None) ⊎ ((line.port.greeted ≡ true) × AreHeld line.letters)

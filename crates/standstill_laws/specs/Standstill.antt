@@ -11,15 +11,12 @@ use Rattle.vchan_protocol.specs.History.Peer.{peer}
 use Rattle.vchan_protocol.specs.Honest.Lawful.{Lawful}
 use Rattle.vchan_rule.specs.Seated.{SeatedEnd, view}
 use Rattle.vchan_lifecycle.specs.Lifecycle.{FindsNotYet}
-use Rattle.qrexec_frame.specs.declared.message.Message.{Message}
 use Rattle.call_broker.specs.declared.decision.Entry.{Entry}
 use Rattle.call_broker.specs.Domains.{Domains, count_of}
-use Rattle.call_broker.specs.Journal.{IsJournal, is_dropped}
+use Rattle.call_broker.specs.Journal.{is_dropped}
 use Rattle.task_duties.specs.Words.{ident_of}
-use Rattle.task_duties.specs.Broker.Owes.{broker_version, awaited_of}
+use Rattle.task_duties.specs.Broker.Owes.{awaited_of}
 use Rattle.task_duties.proofs.ServedLaw.{IsUnusedBy}
-use Rattle.control_port.specs.Port.{PortState}
-use Rattle.control_port.specs.declared.talk.Talker.TheVariants.{Broker}
 use Rattle.agent_slots.specs.Sessions.{Session, is_open, session_at}
 use Rattle.agent_control.specs.declared.control.AgentControl.{AgentControl}
 use Rattle.agent_control.specs.Stopping.{Stops}
@@ -27,11 +24,11 @@ use Rattle.agent_task.specs.State.{AgentState, TellsSoFar}
 use Rattle.broker_task.specs.Letters.{IsAt}
 use Rattle.broker_task.specs.Lines.{is_shut}
 use Rattle.broker_task.specs.Moving.{BrokerLine}
-use Rattle.broker_task.specs.Holding.{HoldsForExecs, NoneIsLost}
-use Rattle.broker_task.specs.Standing.{IsAttended, AreSettled}
-use Rattle.standstill_laws.specs.Control.{Talks}
+use Rattle.broker_task.specs.Given.{end_on}
+use Rattle.broker_task.specs.Holding.{HoldsForExecs, NoneIsLost, PortsStand}
+use Rattle.broker_task.specs.Standing.{Stands, AreSettled}
 use Rattle.standstill_laws.specs.Saying.{StopsStill}
-use Rattle.standstill_laws.specs.Letters.{AreAtRest, IsPortOf}
+use Rattle.standstill_laws.specs.Letters.{AreAtRest}
 use Rattle.standstill_laws.specs.Asking.{heard_so_far}
 use Rattle.standstill_laws.specs.Sessions.{IsGoneStill, SideStandsStill, PeerHasLeft, WasQuietHere}
 use Rattle.standstill_laws.specs.Order.{HasGrown, AreSentInOrder}
@@ -69,21 +66,12 @@ pub record AgentStandsStill (hub : Domains) (journal : List Entry) (core : Core)
   pub still : StopsStill core asks.calls asks.before is_up.channel asks.stops
   pub sessions : (i : ℕ) → SessionStandsStill task.plan.version (session_at task.sessions i)
 
--- the port of what the broker keeps of the domain at this place, by which it has attended to the domain
-pub record PortStands (hub : Domains) (journal : List Entry) (said : ℕ → List Message) (place : ℕ) (line : BrokerLine) : Type 0 where
-  pub port : PortState
-  pub port_is : IsPortOf line port
-  pub own : port.own ≡ broker_version
-  pub attended : IsAttended hub journal said (place + 1) (record { view = view port.end; gone = port.end.side.notes.gone })
-
--- the domain behind this place: what the broker keeps of it, and its agent
-pub record DomainStandsStill (hub : Domains) (awaited : List ℕ) (journal : List Entry) (said : ℕ → List Message) (lines : List BrokerLine) (rest : AreAtRest lines) (place : ℕ) : Type 0 where
+-- the domain behind this place: what the broker keeps of it, on its control page, and its agent
+pub record DomainStandsStill (hub : Domains) (awaited : List ℕ) (journal : List Entry) (lines : List BrokerLine) (rest : AreAtRest lines) (place : ℕ) : Type 0 where
   pub line : BrokerLine
   pub there : IsAt lines place line
-  pub up : is_shut (view line.end).state ≡ false
-  pub kept : PortStands hub journal said place line
-  pub heard : List Message
-  pub talks : Talks (rest place line there up).core Client Broker kept.port (said (place + 1)) heard
+  pub up : is_shut (view line.port.end).state ≡ false
+  pub end : line.port.end.side ≡ side_of (rest place line there up).core Client
   pub task : AgentState
   pub domain : task.plan.domain ≡ place + 1
   pub count : length task.plan.calls ≡ awaited_of awaited (place + 1)
@@ -91,9 +79,9 @@ pub record DomainStandsStill (hub : Domains) (awaited : List ℕ) (journal : Lis
 
 -- where each domain was dropped, or is honest and all that is so of it, all are settled: so the broker is done, since its task goes on only while they aren't
 abbrev pub RunsDoNotStandStill : Type 0
-RunsDoNotStandStill = (hub : Domains) (honest : ℕ → Bool) (awaited : List ℕ) (journal : List Entry) (said : ℕ → List Message) (lines : List BrokerLine) → IsJournal hub journal → HasGrown hub honest journal → HoldsForExecs lines
-    → NoneIsLost hub journal said lines → (rest : AreAtRest lines)
-    → ((place : ℕ) → place < count_of hub → (is_dropped journal (place + 1) ≡ true) ⊎ ((honest (place + 1) ≡ true) × DomainStandsStill hub awaited journal said lines rest place)) → AreSettled hub awaited journal said
+RunsDoNotStandStill = (hub : Domains) (honest : ℕ → Bool) (awaited : List ℕ) (journal : List Entry) (lines : List BrokerLine) → (stands : Stands hub journal (map end_on lines)) → HasGrown hub honest journal → HoldsForExecs lines
+    → NoneIsLost hub journal stands.said lines → PortsStand stands.said lines → (rest : AreAtRest lines)
+    → ((place : ℕ) → place < count_of hub → (is_dropped journal (place + 1) ≡ true) ⊎ ((honest (place + 1) ≡ true) × DomainStandsStill hub awaited journal lines rest place)) → AreSettled hub awaited journal stands.said
 
 -- ---- once the broker is done
 

@@ -56,7 +56,7 @@ HoldsControl task side = ⊥
 
 -- the broker has this end of the control page of the domain at this place
 abbrev pub HoldsLine : Task → ℕ → Side → Type 0
-HoldsLine (Broker b) place side = (line : BrokerLine) × IsAt b.lines place line × (line.end.side ≡ side)
+HoldsLine (Broker b) place side = (line : BrokerLine) × IsAt b.lines place line × (line.port.end.side ≡ side)
 HoldsLine task place side = ⊥
 
 -- while an agent and the broker rest, the control page between them does, if the broker's end was open

@@ -6,15 +6,12 @@ use Rattle.ring_words.specs.declared.page.Role.{Role}
 use Rattle.ring_words.specs.declared.page.Role.TheVariants.{Client}
 use Rattle.vchan_protocol.specs.History.Core.{Core, side_of}
 use Rattle.vchan_protocol.specs.History.Peer.{peer}
-use Rattle.qrexec_frame.specs.declared.message.Message.{Message}
 use Rattle.call_broker.specs.Domains.{Domains, count_of}
 use Rattle.call_broker.specs.Journal.{is_dropped}
 use Rattle.task_duties.specs.Broker.Owes.{awaited_of}
 use Rattle.task_duties.specs.declared.ends.TaskTurn.TheVariants as own
-use Rattle.control_port.specs.declared.talk.Talker.TheVariants.{Broker as OfBroker}
 use Rattle.agent_slots.specs.Sessions.{Session, is_open, session_at}
 use Rattle.agent_task.specs.State.{AgentState, TellsSoFar}
-use Rattle.agent_task.specs.Moving.{asked_at_most}
 use Rattle.broker_task.specs.Given.{BrokerState}
 use Rattle.broker_task.specs.Letters.{IsAt}
 use Rattle.broker_task.specs.Moving.{BrokerLine}
@@ -22,10 +19,9 @@ use Rattle.broker_task.specs.Turns.{StandsAfter}
 use Rattle.domain_task.specs.declared.task.Task.{Task}
 use Rattle.domain_task.specs.declared.task.Task.TheVariants.{Agent, Broker}
 use Rattle.domain_task.specs.Working.{DoesNothing}
-use Rattle.standstill_laws.specs.Control.{Talks}
 use Rattle.standstill_laws.specs.Order.{HasGrown}
 use Rattle.standstill_laws.specs.Sessions.{PeerHasLeft}
-use Rattle.standstill_laws.specs.Standstill.{AgentIsUp, PortStands}
+use Rattle.standstill_laws.specs.Standstill.{AgentIsUp}
 use Rattle.standstill_laws.specs.Counting.{TurnMade, AreMade, work_of_all, NoStretchRests}
 use Rattle.standstill_laws.specs.Work.{IsHonestRun, run_work}
 use Rattle.standstill_laws.specs.Stretch.{AreMoments, HoldsControl, HoldsLine}
@@ -86,7 +82,7 @@ abbrev pub IsHonestAgent : Domains → (ℕ → Bool) → ℕ → Type 0
 IsHonestAgent hub honest place = (place < count_of hub) × (honest (place + 1) ≡ true)
 
 -- the domain behind this place, of which the broker keeps this between two of its turns in a stretch, after the second of which it is `then`
-pub record DomainStays (honest : ℕ → Bool) (pages : RunPages) (first now last : ℕ → Task) (broker then : BrokerState) (said : ℕ → List Message) (place : ℕ) (line : BrokerLine) : Type 0 where
+pub record DomainStays (honest : ℕ → Bool) (pages : RunPages) (first now last : ℕ → Task) (broker then : BrokerState) (place : ℕ) (line : BrokerLine) : Type 0 where
   -- the ends of its control page at the first moment and at the last, and at one between the broker's two turns
   pub span : Span
   pub control : pages.control place ≡ OfHonest span
@@ -98,14 +94,12 @@ pub record DomainStays (honest : ℕ → Bool) (pages : RunPages) (first now las
   pub core : Core
   pub between : IsBetween span.first span.last core
   -- both have greeted
-  pub greeted : line.greeted ≡ true
-  pub version : IsSome line.version
-  pub greets : (new : BrokerLine) → IsAt then.lines place new → IsSome new.version
-  -- the port of what the broker keeps
-  pub kept : PortStands broker.hub broker.journal said place line
-  pub heard : List Message
-  pub talks : Talks core Client OfBroker kept.port (said (place + 1)) heard
-  -- its agent, whose channel is up, and which might ask for a call
+  pub greeted : line.port.greeted ≡ true
+  pub version : IsSome line.port.version
+  pub greets : (new : BrokerLine) → IsAt then.lines place new → IsSome new.port.version
+  -- the end that the broker keeps
+  pub end : line.port.end.side ≡ side_of core Client
+  -- its agent, whose channel is up
   pub task : AgentState
   pub task_is : now (place + 1) ≡ Agent task
   pub domain : task.plan.domain ≡ place + 1
@@ -113,7 +107,6 @@ pub record DomainStays (honest : ℕ → Bool) (pages : RunPages) (first now las
   pub agent : AgentIsUp broker.hub broker.journal core task
   pub agent_greeted : agent.channel.port.greeted ≡ true
   pub agent_version : IsSome agent.channel.port.version
-  pub may_ask : 0 < asked_at_most task.pages
   pub sessions : (i : ℕ) → SessionStays pages first last (IsHonestAgent broker.hub honest) place i (session_at task.sessions i)
 
 -- ---- a stretch
@@ -127,9 +120,8 @@ pub record StretchStands (honest : ℕ → Bool) (pages : RunPages) (first now l
   pub then_is : next.now ≡ Broker then
   -- what the contract says of the broker after its turn before that one, and what no contract says
   pub stands : StandsAfter (own.Again broker)
-  pub lines : length broker.lines ≡ count_of broker.hub
   pub grown : HasGrown broker.hub honest broker.journal
-  pub domains : (place : ℕ) (line : BrokerLine) → IsAt broker.lines place line → IsGone pages broker place ⊎ ((honest (place + 1) ≡ true) × DomainStays honest pages first now last broker then stands.0.said place line)
+  pub domains : (place : ℕ) (line : BrokerLine) → IsAt broker.lines place line → IsGone pages broker place ⊎ ((honest (place + 1) ≡ true) × DomainStays honest pages first now last broker then place line)
 
 -- before that turn the broker and the agent of each honest domain made one, and eight of all the turns are those of each of these agents
 pub record StretchRests (honest : ℕ → Bool) (pages : RunPages) (first now last : ℕ → Task) (turns : List TurnMade) (next : TurnMade) (rest : List TurnMade) : Type 0 where

@@ -94,7 +94,7 @@ pub record IsHonestRun (hub : Domains) (tasks : ℕ → Task) (broker : BrokerSt
   -- no more bytes came and went in a task than on its ends; while it goes on, just these
   pub agent_has : (place : ℕ) → place < count_of hub → bytes_of (agents place).channel ≤ length (pages place).server.got + length (pages place).server.sent
   pub count : length broker.lines ≡ count_of hub
-  pub broker_has : (place : ℕ) (line : BrokerLine) → IsAt broker.lines place line → bytes_on line.end ≤ length (pages place).client.got + length (pages place).client.sent
+  pub broker_has : (place : ℕ) (line : BrokerLine) → IsAt broker.lines place line → bytes_on line.port.end ≤ length (pages place).client.got + length (pages place).client.sent
   -- each data page is that of a call of its own, and the sessions of all agents are those of the two sides of each
   pub data_pages : List DataPage
   pub are : Each IsDataPage data_pages
