@@ -6,8 +6,8 @@ use Rattle.end_view.specs.Settled.{Settled}
 use Rattle.vchan_core.specs.OneMachine.Phases.{IsIdle, payload_needed, buffer_needed}
 use Rattle.vchan_rule.specs.Ends.{IsSameEnd, Pays}
 use Rattle.vchan_rule.specs.Seated.{IsOpen, PageView, SeatedEnd, view}
-use Rattle.tests_ring.specs.declared.rows.Row.{Row}
-use Rattle.tests_ring.specs.declared.rows.Row.TheVariants.{Fresh, FiveBytes, FullRing, Packets, LongPacket, Events}
+use Rattle.tests_ring.specs.declared.row.Row.{Row}
+use Rattle.tests_ring.specs.declared.row.Row.TheVariants.{Fresh, FiveBytes, FullRing, Packets, LongPacket, Events}
 
 -- an end of this page that has sent and got nothing
 abbrev pub IsNew : EndView → PageView → Role → Type 0

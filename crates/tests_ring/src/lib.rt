@@ -12,6 +12,7 @@ mod images;
 mod indices;
 #[cfg(test)]
 mod orders;
+mod row;
 #[cfg(test)]
 mod rows;
 #[cfg(test)]
@@ -22,3 +23,5 @@ mod threads;
 mod whole;
 #[cfg(test)]
 mod words;
+
+pub use row::Row;

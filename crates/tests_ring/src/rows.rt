@@ -6,6 +6,7 @@ ghost use Rattle.vchan_rule.specs.Ends.{IsSameEnd};
 ghost use Rattle.ring_words.specs.Rings.{size};
 ghost use Rattle.tests_ring.specs.Rows.{AreBetween, AreUnused, HasCounts, IsNew, IsRow, IsUnderWay, moved_on};
 
+use crate::row::Row;
 use crate::whole::{
     check_bytes, drain_all, drain_none, end_stream, letters, read_all, read_none, receive_none,
     receive_whole, send_none, send_whole, write_all, write_none, write_some,
@@ -52,24 +53,6 @@ fn connected<'p>(page: &'p Page, server: IdleSeat, client: IdleSeat) -> Option<(
         Ok(()) => Some((server, client)),
         Err(_) => None,
     }
-}
-
-/// What two honest ends do on a new page whose client has connected.
-#[derive(Clone, Copy)]
-pub enum Row {
-    /// The server finds nothing to drain.
-    Fresh,
-    /// The client writes five bytes, and the server reads them.
-    FiveBytes,
-    /// The client writes one byte more than the ring holds, and then another.
-    FullRing,
-    /// The client sends a packet that fills the ring, and another has no room. The server gets four bytes
-    /// of it, and then asks for one more than wait.
-    Packets,
-    /// The client sends a packet that is longer than the ring.
-    LongPacket,
-    /// A server that found nothing to read is signalled once for two writes.
-    Events,
 }
 
 /// Plays a row on a new page. Returns `None` if an answer isn't that of the row.

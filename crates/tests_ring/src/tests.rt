@@ -1,8 +1,9 @@
 ghost use Rattle.std.specs.Prelude.{◌≡◌};
 ghost use Rattle.ring_words.specs.declared.page.Role.TheVariants.{Server, Client};
 
+use crate::row::Row;
 use crate::rows::{
-    Row, closed_race, consumed_of_full_ring, consumed_prefix, play, ready_space_gone, said_by_hand,
+    closed_race, consumed_of_full_ring, consumed_prefix, play, ready_space_gone, said_by_hand,
 };
 use crate::threads::{exchange, receive_all, send_all};
 use ring_words::check_orders;
