@@ -1,5 +1,6 @@
 -- What the two sides of an offered page hold, and what they have sent to each other.
 -- The forms are this project's own.
+use mathlib.Core.List.{IsPrefix}
 use Rattle.std.specs.Prelude.{◌≡◌, List, [], ◌∷◌}
 use Rattle.std.specs.declared.snapshot.Snapshot.{Snapshot}
 use Rattle.atomic_table.specs.Seated.{TableId}
@@ -64,6 +65,11 @@ abbrev pub client_end : TableId → ClientLast → EndView
 client_end name client.Unlaid = idle_view name Client
 client_end name (client.Returned end back) = named name (last_view end.value)
 
-abbrev pub StandsClient : List Offer → ClientLast → Type 0
-StandsClient taken client.Unlaid = taken ≡ []
-StandsClient taken (client.Returned end back) = (offer : Offer) × (taken ≡ offer ∷ []) × HasReturned offer end.value back
+-- the next of the offers that the side found is of a page of these start words
+abbrev pub IsOfferedNext : PageStart → List Offer → Type 0
+IsOfferedNext words found = (offer : Offer) × IsPrefix (offer ∷ []) found × (offer.page.orders ≡ words.orders) × (offer.page.start ≡ words.start)
+
+-- it took none, and none of a page of its own was there when it looked; or it took one, and gave the end back
+abbrev pub StandsClient : PageStart → List Offer → List Offer → ClientLast → Type 0
+StandsClient words taken found client.Unlaid = (taken ≡ []) × ¬ IsOfferedNext words found
+StandsClient words taken found (client.Returned end back) = (offer : Offer) × (taken ≡ offer ∷ []) × HasReturned offer end.value back

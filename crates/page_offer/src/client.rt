@@ -1,11 +1,11 @@
 //! The client's side of a page that is made at its first use.
-ghost use mathlib.Core.List.{IsPrefix};
-ghost use Rattle.std.specs.Prelude.{◌≡◌, [], ◌∷◌, IfOk, IfErr, IsTrue};
+ghost use Rattle.std.specs.Prelude.{◌≡◌, [], false, IfOk, IfErr, IsTrue};
 ghost use Rattle.ring_words.specs.declared.page.Role.TheVariants.{Client};
 ghost use Rattle.rtrb.specs.Ring.{ConsumerLooked, known_items, received};
 ghost use Rattle.end_view.specs.EndView.{IsUnused};
 ghost use Rattle.vchan_rule.specs.Seated.{view, last_view};
 ghost use Rattle.page_offer.specs.Names.{IsNameOf, name_of};
+ghost use Rattle.page_offer.specs.Offers.{IsOfferedNext};
 ghost use Rattle.page_offer.specs.Views.{idle_view, named, unused_view};
 
 use crate::back::{Back, BackSender};
@@ -66,7 +66,7 @@ impl Model for OpenClient {
 /// What is left of a client's side that is done.
 #[derive(Drop)]
 pub(crate) enum ClientLast {
-    /// No offer was taken.
+    /// No offer was taken: the side looked, and none of a page of its own was there.
     Unlaid,
     /// The client's end went back to the server.
     Returned {
@@ -85,7 +85,7 @@ pub struct DoneClient {
 }
 
 impl Model for DoneClient {
-    ghost use Rattle.rtrb.specs.Ring.{received};
+    ghost use Rattle.rtrb.specs.Ring.{known_items, received};
     ghost use Rattle.page_offer.specs.Names.{name_of};
     ghost use Rattle.page_offer.specs.Views.{DoneEnd};
     ghost use Rattle.page_offer.specs.Offers.{StandsClient, client_end};
@@ -94,7 +94,7 @@ impl Model for DoneClient {
 
     ghost view = { λ c. record { end = client_end (name_of c.offers.end c.orders c.first) c.last; orders = c.orders; start = c.first } };
 
-    ghost invariant = { λ c. StandsClient (received c.offers) c.last };
+    ghost invariant = { λ c. StandsClient (record { orders = c.orders; start = c.first }) (received c.offers) (known_items c.offers) c.last };
 }
 
 impl UnlaidClient {
@@ -139,22 +139,7 @@ impl UnlaidClient {
                 left,
             });
         }
-        let taken = offers.pop_known();
-        let offer = Snapshot::of(&taken);
-        let Offer {
-            page,
-            seat,
-            back,
-            ..
-        } = taken;
-        let side = OpenClient {
-            offers,
-            orders,
-            first,
-            back,
-            offer,
-        };
-        Ok((page.attach(seat), side))
+        Ok(take(offers, orders, first))
     }
 
     /// Returns whether no offer comes any more: the server's side is done without having made the page, or was
@@ -166,26 +151,20 @@ impl UnlaidClient {
     }
 
     /// Finishes the side of a client that doesn't use its end. An end that was offered retires at once, so that
-    /// its peer finds it gone.
+    /// its peer finds it gone. The side leaves without one only if it looked and no page of its own was offered.
     pub fn finish(self) -> DoneClient
         ensures { result.end ≡ idle_view self Client }
     {
-        match self.open() {
-            Ok((end, side)) => side.finish(retire(end)),
-            Err(side) => side.leave(),
-        }
-    }
-
-    // The same, if no offer was made so far.
-    fn leave(self) -> DoneClient
-        ensures { result.end ≡ idle_view self Client }
-    {
         let UnlaidClient {
-            offers,
+            mut offers,
             orders,
             first,
             left,
         } = self;
+        if is_offered(&mut offers, orders, first) {
+            let (end, side) = take(offers, orders, first);
+            return side.finish(retire(end));
+        }
         left.leave();
         DoneClient {
             offers,
@@ -196,15 +175,42 @@ impl UnlaidClient {
     }
 }
 
-// Returns whether a page of these orders and this start is offered.
+// Looks, and returns whether a page of these orders and this start is offered.
 fn is_offered(offers: &mut Consumer<Offer>, orders: Orders, first: u32) -> bool
     ensures looked { ConsumerLooked offers.old offers.new }
-    ensures offered { IsTrue result → (offer : _) × IsPrefix (offer ∷ []) (known_items offers.new) × (offer.page.orders ≡ orders) × (offer.page.start ≡ first) }
+    ensures offered { IsTrue result → IsOfferedNext (record { orders = orders; start = first }) (known_items offers.new) }
+    ensures unoffered { result ≡ false → ¬ IsOfferedNext (record { orders = orders; start = first }) (known_items offers.new) }
 {
     if offers.slots() == 0 {
         return false;
     }
     offers.peek_known().page.begins_with(orders, first)
+}
+
+// Takes the offer of a page of these orders and this start, and makes the client's end.
+fn take<'p>(mut offers: Consumer<Offer>, orders: Orders, first: u32) -> (End<'p>, OpenClient)
+    requires none { received offers ≡ [] }
+    requires offered { IsOfferedNext (record { orders = orders; start = first }) (known_items offers) }
+    ensures end { IsUnused (view result.0) × (named (name_of offers.end orders first) (view result.0) ≡ unused_view (name_of offers.end orders first) Client) }
+    ensures side { (result.1.name ≡ name_of offers.end orders first) × (result.1.table ≡ (view result.0).page) }
+    ensures words { (result.0.side.orders ≡ orders) × (result.0.start ≡ first) }
+{
+    let taken = offers.pop_known();
+    let offer = Snapshot::of(&taken);
+    let Offer {
+        page,
+        seat,
+        back,
+        ..
+    } = taken;
+    let side = OpenClient {
+        offers,
+        orders,
+        first,
+        back,
+        offer,
+    };
+    (page.attach(seat), side)
 }
 
 impl OpenClient {

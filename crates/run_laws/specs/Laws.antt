@@ -168,12 +168,12 @@ ResultEqual =
 
 -- ---- there are runs
 
--- a run in which the agent of the first domain reports these calls
-abbrev pub RunReporting : List CallDone → Type 0
-RunReporting calls = (s : Scenario) × (run : Run) × IsRun s run × (run.calls 1 ≡ calls)
+-- a run whose pages have these orders, and in which the agent of the first domain reports these calls
+abbrev pub RunReporting : Orders → List CallDone → Type 0
+RunReporting orders calls = (s : Scenario) × (run : Run) × IsRun s run × (s.control ≡ orders) × (s.payload ≡ orders) × (run.calls 1 ≡ calls)
 
 -- whatever the orders of its pages: of a domain without calls, of a call that is refused, and of a call that another honest domain serves
 pub record RunsAreThere (orders : Orders) : Type 0 where
-  pub without_calls : RunReporting []
-  pub refused : RunReporting (record { number = 1; end = WasRefused } ∷ [])
-  pub served : (got : List ℕ) × RunReporting (record { number = 1; end = Session 513 2 (Done (pos 0)) [] [] got } ∷ [])
+  pub without_calls : RunReporting orders []
+  pub refused : RunReporting orders (record { number = 1; end = WasRefused } ∷ [])
+  pub served : (got : List ℕ) × RunReporting orders (record { number = 1; end = Session 513 2 (Done (pos 0)) [] [] got } ∷ [])

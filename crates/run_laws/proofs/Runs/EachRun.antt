@@ -7,9 +7,9 @@ use Rattle.run_laws.proofs.Runs.RefusedRun.{one, one_run, there_is_a_run as ther
 use Rattle.run_laws.proofs.Runs.ServedRun.{two, two_run, there_is_a_run as there_is_a_served_run}
 
 pub runs_are_there : (orders : Orders) → RunsAreThere orders
-unfolding tiny_run
+unfolding tiny tiny_run
 runs_are_there orders = record {
-  without_calls = (tiny orders, tiny_run orders, there_is_a_run orders, refl);
-  refused = (one orders, one_run orders, there_is_a_refused_run orders, refl);
-  served = (_, (two orders, two_run orders, there_is_a_served_run orders, refl));
+  without_calls = (tiny orders, tiny_run orders, there_is_a_run orders, refl, refl, refl);
+  refused = (one orders, one_run orders, there_is_a_refused_run orders, refl, refl, refl);
+  served = (_, (two orders, two_run orders, there_is_a_served_run orders, refl, refl, refl));
 }

@@ -1,7 +1,7 @@
 use Rattle.std.proofs.Common.{ap, ◌∙◌, sym, subst}
 use Rattle.atomic_table.specs.Seated.{TableId}
 use Rattle.ring_words.specs.declared.page.Role.TheVariants.{Client}
-use Rattle.rtrb.specs.Ring.{sent, received}
+use Rattle.rtrb.specs.Ring.{known_items, sent, received}
 use Rattle.vchan_rule.specs.Seated.{last_view}
 use Rattle.page_offer.specs.declared.server.ServerLast.{ServerLast}
 use Rattle.page_offer.specs.declared.client.ClientLast.{ClientLast}
@@ -21,14 +21,14 @@ returns-in-Unlaid-client-clause-settled c =
 
 pub settle_returned-requires-clause-said : goal.settle_returned-requires-clause-said
 settle_returned-requires-clause-said c =
-    let w = subst (λ (l : ClientLast). StandsClient (received c.client.inside.offers) l) c.in-Returned.is c.client.invariant in
+    let w = subst (λ (l : ClientLast). StandsClient (record { orders = c.client.inside.orders; start = c.client.inside.first }) (received c.client.inside.offers) (known_items c.client.inside.offers) l) c.in-Returned.is c.client.invariant in
     (w.2.mark, c.in-Returned.end.value, w.2.said)
 
 pub returns-in-Waits-clause-settled : goal.returns-in-Waits-clause-settled
 returns-in-Waits-clause-settled c =
     let name = c.args.server.end.page in
     let w = subst (λ (l : ServerLast). StandsServer (record { orders = c.server.inside.orders; start = c.server.inside.first }) (sent c.server.inside.offers) l) c.in-Waits.is c.server.invariant in
-    let r = subst (λ (l : ClientLast). StandsClient (received c.client.inside.offers) l) c.in-Returned.is c.client.invariant in
+    let r = subst (λ (l : ClientLast). StandsClient (record { orders = c.client.inside.orders; start = c.client.inside.first }) (received c.client.inside.offers) (known_items c.client.inside.offers) l) c.in-Returned.is c.client.invariant in
     let s = server_named _ _ _ _ _ _ c.server.view_is c.in-Waits.is in
     let k = client_named _ _ _ _ _ _ c.client.view_is c.in-Returned.is in
     let o = c.settle_returned.ensures in
@@ -44,7 +44,7 @@ pub returns-clause-settled : goal.returns-clause-settled
 returns-clause-settled c =
     let name = c.args.server.end.page in
     let w = subst (λ (l : ServerLast). StandsServer (record { orders = c.server.inside.orders; start = c.server.inside.first }) (sent c.server.inside.offers) l) c.in-Settled.is c.server.invariant in
-    let r = subst (λ (l : ClientLast). StandsClient (received c.client.inside.offers) l) c.in-Returned-client.is c.client.invariant in
+    let r = subst (λ (l : ClientLast). StandsClient (record { orders = c.client.inside.orders; start = c.client.inside.first }) (received c.client.inside.offers) (known_items c.client.inside.offers) l) c.in-Returned-client.is c.client.invariant in
     let s = server_named _ _ _ _ _ _ c.server.view_is c.in-Settled.is in
     let k = client_named _ _ _ _ _ _ c.client.view_is c.in-Returned-client.is in
     let end = c.was_returned.ensures c.in-Settled.settled w.3 r.2.mark c.in-Returned-client.end.value r.2.said in
