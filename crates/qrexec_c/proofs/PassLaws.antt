@@ -1,5 +1,5 @@
 -- A data message of which the header has come, and the body passes.
-use Rattle.std.proofs.Common.{◌≡◌, ◌≢◌, ℕ, ◌+◌, ◌%◌, ◌^◌, ◌≤◌, ◌⊎◌, inl, Some, List, [], ◌∷◌, ◌++◌, length, take, drop, false, refl, sym, ◌∙◌, ap, subst, arith, length-append}
+use Rattle.std.proofs.Common.{◌≡◌, ◌≢◌, ℕ, ◌+◌, ◌%◌, ◌^◌, ◌≤◌, inl, Some, List, [], ◌∷◌, ◌++◌, length, take, drop, false, refl, sym, ◌∙◌, ap, subst, arith, length-append}
 use Rattle.std.proofs.lemmas.List.{take_all, drop_all, length-drop, length-take-le, take-append-drop}
 use Rattle.qrexec_frame.specs.declared.kind.Channel.{Channel}
 use Rattle.qrexec_frame.specs.declared.kind.Kind.{Kind}
@@ -7,11 +7,10 @@ use Rattle.qrexec_frame.specs.declared.kind.Kind.TheVariants as kind
 use Rattle.qrexec_frame.specs.declared.message.Message.{Message}
 use Rattle.qrexec_frame.specs.Kinds.{kind_on, has_line, IsData}
 use Rattle.qrexec_frame.specs.Grammar.{number_at, Fault, IsInRange}
-use Rattle.qrexec_frame.specs.Fronts.{front, made}
+use Rattle.qrexec_frame.specs.Fronts.{made}
 use Rattle.qrexec_frame.specs.Streams.{Front, Whole, Placed}
 use Rattle.qrexec_frame.proofs.FrontLaws.{IsEnded, front_no_body, front_whole}
 use Rattle.qrexec_frame.proofs.GrammarLaws.{HasHeader_append, number_at_append}
-use Rattle.qrexec_c.specs.declared.reader.Reader.{Reader}
 use Rattle.qrexec_c.specs.declared.pass.Passing.{Passing}
 use Rattle.qrexec_c.specs.Readers.{Stands, IsLess}
 use Rattle.qrexec_c.specs.Passings.{Under, PassesOn, PassesWhole, ReadsPart, ReadsWhole}

@@ -1,14 +1,12 @@
 -- What a writer leaves, of a message that was laid into the front of its caller's bytes.
 use Rattle.std.proofs.Common.{◌≡◌, ℕ, ◌+◌, ◌<◌, ◌≤◌, List, ◌++◌, length, take, drop, refl, sym, ◌∙◌, ap, arith, append_assoc}
 use Rattle.std.proofs.lemmas.List.{take_all}
-use Rattle.qrexec_frame.specs.declared.kind.Channel.{Channel}
 use Rattle.qrexec_frame.specs.declared.message.Message.{Message}
 use Rattle.qrexec_frame.specs.Grammar.{Fault}
-use Rattle.qrexec_frame.specs.Messages.{Fits, HasNumbers, GoesOn, written, four, framed}
-use Rattle.qrexec_frame.specs.Fronts.{front}
+use Rattle.qrexec_frame.specs.Messages.{Fits, HasNumbers, written, four, framed}
 use Rattle.qrexec_frame.specs.Streams.{Front, Whole}
 use Rattle.qrexec_frame.proofs.WrittenLaws.{size_of, has_size, is_read_again}
-use Rattle.qrexec_c.specs.Puts.{IsUnwritten, IsWritten, Puts}
+use Rattle.qrexec_c.specs.Puts.{Puts}
 
 abbrev whole : Message → ℕ → Front Message Fault
 whole m n = Whole m n

@@ -1,5 +1,5 @@
 -- What a reader answers is the reading of all bytes of its stream.
-use Rattle.std.proofs.Common.{◌≡◌, ◌≢◌, ℕ, ◌+◌, ◌<◌, ◌≤◌, ◌%◌, ◌^◌, List, [], ◌∷◌, ◌++◌, length, drop, zero, suc, Result, Option, Some, None, Ok, Err, refl, sym, ◌∙◌, ap, subst, arith}
+use Rattle.std.proofs.Common.{◌≡◌, ◌≢◌, ℕ, ◌+◌, ◌≤◌, ◌%◌, ◌^◌, List, [], ◌∷◌, ◌++◌, length, drop, zero, suc, Result, Option, Some, None, Ok, Err, refl, sym, ◌∙◌, ap, subst, arith}
 use Rattle.std.proofs.Common.{append_assoc}
 use Rattle.std.proofs.lemmas.List.{append-nil}
 use Rattle.list_laws.specs.Lists.{IsPrefixOf}
@@ -11,7 +11,7 @@ use Rattle.qrexec_frame.specs.declared.fault.NextError.TheVariants as error
 use Rattle.qrexec_frame.specs.declared.message.Message.{Message}
 use Rattle.qrexec_frame.specs.Grammar.{Fault, UnknownType, TooLong, BadLength, NoNul}
 use Rattle.qrexec_frame.specs.Fronts.{front, reading, fault_at}
-use Rattle.qrexec_frame.specs.Streams.{Whole, Placed, Rest, FaultAt}
+use Rattle.qrexec_frame.specs.Streams.{Whole, Placed, Rest}
 use Rattle.qrexec_frame.specs.Decoding.{DecoderState, after_message, StandsFor}
 use Rattle.qrexec_frame.proofs.DecodingLaws.{next_reads}
 use Rattle.qrexec_c.specs.declared.reader.Reader.{Reader}

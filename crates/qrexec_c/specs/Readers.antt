@@ -1,5 +1,5 @@
 -- A reader that its caller holds as plain numbers, and what it has read of a stream.
-use Rattle.std.specs.Prelude.{◌≡◌, ◌≢◌, ℕ, ◌+◌, ◌%◌, ◌^◌, ◌<◌, ◌≤◌, ◌⊎◌, ◌==◌, if◌then◌else◌, List, [], ◌∷◌, ◌++◌, length, take, drop, Option, Some, None, Result, Ok, Err}
+use Rattle.std.specs.Prelude.{◌≡◌, ℕ, ◌+◌, ◌%◌, ◌^◌, ◌<◌, ◌⊎◌, ◌==◌, if◌then◌else◌, List, [], ◌∷◌, ◌++◌, drop, Option, Some, None}
 use Rattle.qrexec_frame.specs.declared.kind.Channel.{Channel}
 use Rattle.qrexec_frame.specs.declared.kind.Channel.TheVariants.{Control, Data}
 use Rattle.qrexec_frame.specs.declared.fault.FrameFault.{FrameFault}
@@ -11,7 +11,7 @@ use Rattle.qrexec_frame.specs.Grammar.{Fault}
 use Rattle.qrexec_frame.specs.Fronts.{front, reading, fault_at}
 use Rattle.qrexec_frame.specs.Decoding.{DecoderState, StandsFor}
 use Rattle.list_laws.specs.Lists.{IsPrefixOf}
-use Rattle.qrexec_frame.specs.Streams.{Whole, Bad, Short, Placed, Rest, FaultAt}
+use Rattle.qrexec_frame.specs.Streams.{Whole, Bad, Short, Placed, FaultAt}
 use Rattle.qrexec_c.specs.declared.reader.Reader.{Reader}
 use Rattle.qrexec_c.specs.declared.found.Found.{Found}
 use Rattle.qrexec_c.specs.Founds.{Tells}

@@ -172,7 +172,6 @@ fn lay_trigger(out: &mut [u8], target: &[u8], ident: &[u8], service: &[u8])
 
 /// Writes `MSG_HELLO`.
 #[unsafe(no_mangle)]
-#[tactic(auto, using(crate::proofs::PutLaws::puts_written, crate::proofs::PutLaws::puts_none))]
 pub extern "C" fn qrexec_put_hello(out: &mut [u8], version: u32) -> usize
     ensures { Puts (Hello version) out.old out.new result }
 {
@@ -185,7 +184,6 @@ pub extern "C" fn qrexec_put_hello(out: &mut [u8], version: u32) -> usize
 
 /// Writes `MSG_DATA_STDIN`. No bytes end the stream; more than 65,536 are too many.
 #[unsafe(no_mangle)]
-#[tactic(auto, using(crate::proofs::PutLaws::puts_written, crate::proofs::PutLaws::puts_none))]
 pub extern "C" fn qrexec_put_stdin(out: &mut [u8], bytes: &[u8]) -> usize
     ensures { Puts (Stdin bytes.now) out.old out.new result }
 {
@@ -201,7 +199,6 @@ pub extern "C" fn qrexec_put_stdin(out: &mut [u8], bytes: &[u8]) -> usize
 
 /// Writes `MSG_DATA_STDOUT`. No bytes end the stream; more than 65,536 are too many.
 #[unsafe(no_mangle)]
-#[tactic(auto, using(crate::proofs::PutLaws::puts_written, crate::proofs::PutLaws::puts_none))]
 pub extern "C" fn qrexec_put_stdout(out: &mut [u8], bytes: &[u8]) -> usize
     ensures { Puts (Stdout bytes.now) out.old out.new result }
 {
@@ -217,7 +214,6 @@ pub extern "C" fn qrexec_put_stdout(out: &mut [u8], bytes: &[u8]) -> usize
 
 /// Writes `MSG_DATA_STDERR`. No bytes end the stream; more than 65,536 are too many.
 #[unsafe(no_mangle)]
-#[tactic(auto, using(crate::proofs::PutLaws::puts_written, crate::proofs::PutLaws::puts_none))]
 pub extern "C" fn qrexec_put_stderr(out: &mut [u8], bytes: &[u8]) -> usize
     ensures { Puts (Stderr bytes.now) out.old out.new result }
 {
@@ -233,7 +229,6 @@ pub extern "C" fn qrexec_put_stderr(out: &mut [u8], bytes: &[u8]) -> usize
 
 /// Writes `MSG_DATA_EXIT_CODE`.
 #[unsafe(no_mangle)]
-#[tactic(auto, using(crate::proofs::PutLaws::puts_written, crate::proofs::PutLaws::puts_none))]
 pub extern "C" fn qrexec_put_exit_code(out: &mut [u8], code: i32) -> usize
     ensures { Puts (ExitCode code) out.old out.new result }
 {
@@ -246,7 +241,7 @@ pub extern "C" fn qrexec_put_exit_code(out: &mut [u8], code: i32) -> usize
 
 /// Writes `MSG_EXEC_CMDLINE`. The line has at most 65,527 bytes.
 #[unsafe(no_mangle)]
-#[tactic(auto, using(crate::proofs::PutLaws::puts_written, crate::proofs::PutLaws::puts_none))]
+#[tactic(auto, using(crate::proofs::PutLaws::puts_none))]
 pub extern "C" fn qrexec_put_exec(out: &mut [u8], domain: u32, port: u32, line: &[u8]) -> usize
     ensures { Puts (Exec domain port line.now) out.old out.new result }
 {
@@ -262,7 +257,7 @@ pub extern "C" fn qrexec_put_exec(out: &mut [u8], domain: u32, port: u32, line: 
 
 /// Writes `MSG_JUST_EXEC`. The line has at most 65,527 bytes.
 #[unsafe(no_mangle)]
-#[tactic(auto, using(crate::proofs::PutLaws::puts_written, crate::proofs::PutLaws::puts_none))]
+#[tactic(auto, using(crate::proofs::PutLaws::puts_none))]
 pub extern "C" fn qrexec_put_just_exec(out: &mut [u8], domain: u32, port: u32, line: &[u8]) -> usize
     ensures { Puts (JustExec domain port line.now) out.old out.new result }
 {
@@ -278,7 +273,7 @@ pub extern "C" fn qrexec_put_just_exec(out: &mut [u8], domain: u32, port: u32, l
 
 /// Writes `MSG_SERVICE_CONNECT`. The ident has at most 31 bytes.
 #[unsafe(no_mangle)]
-#[tactic(auto, using(crate::proofs::PutLaws::puts_written, crate::proofs::PutLaws::puts_none))]
+#[tactic(auto, using(crate::proofs::PutLaws::puts_none))]
 pub extern "C" fn qrexec_put_connect(out: &mut [u8], domain: u32, port: u32, ident: &[u8]) -> usize
     ensures { Puts (Connect domain port ident.now) out.old out.new result }
 {
@@ -294,7 +289,7 @@ pub extern "C" fn qrexec_put_connect(out: &mut [u8], domain: u32, port: u32, ide
 
 /// Writes `MSG_SERVICE_REFUSED`. The ident has at most 31 bytes.
 #[unsafe(no_mangle)]
-#[tactic(auto, using(crate::proofs::PutLaws::puts_written, crate::proofs::PutLaws::puts_none))]
+#[tactic(auto, using(crate::proofs::PutLaws::puts_none))]
 pub extern "C" fn qrexec_put_refused(out: &mut [u8], ident: &[u8]) -> usize
     ensures { Puts (Refused ident.now) out.old out.new result }
 {
@@ -310,7 +305,6 @@ pub extern "C" fn qrexec_put_refused(out: &mut [u8], ident: &[u8]) -> usize
 
 /// Writes `MSG_CONNECTION_TERMINATED`.
 #[unsafe(no_mangle)]
-#[tactic(auto, using(crate::proofs::PutLaws::puts_written, crate::proofs::PutLaws::puts_none))]
 pub extern "C" fn qrexec_put_terminated(out: &mut [u8], domain: u32, port: u32) -> usize
     ensures { Puts (Terminated domain port) out.old out.new result }
 {
@@ -323,7 +317,7 @@ pub extern "C" fn qrexec_put_terminated(out: &mut [u8], domain: u32, port: u32) 
 
 /// Writes `MSG_TRIGGER_SERVICE3`. The target has at most 63 bytes, the ident 31, and the service 65,439.
 #[unsafe(no_mangle)]
-#[tactic(auto, using(crate::proofs::PutLaws::puts_written, crate::proofs::PutLaws::puts_none))]
+#[tactic(auto, using(crate::proofs::PutLaws::puts_none))]
 pub extern "C" fn qrexec_put_trigger3(
     out: &mut [u8],
     target: &[u8],
@@ -344,7 +338,7 @@ pub extern "C" fn qrexec_put_trigger3(
 
 /// Writes `MSG_TRIGGER_SERVICE`. The target and the ident have at most 31 bytes, and the service 63.
 #[unsafe(no_mangle)]
-#[tactic(auto, using(crate::proofs::PutLaws::puts_written, crate::proofs::PutLaws::puts_none))]
+#[tactic(auto, using(crate::proofs::PutLaws::puts_none))]
 pub extern "C" fn qrexec_put_trigger(
     out: &mut [u8],
     target: &[u8],

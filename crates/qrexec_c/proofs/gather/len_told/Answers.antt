@@ -1,4 +1,4 @@
-use Rattle.std.proofs.Common.{◌≡◌, ◌≤◌, [], length, rules, sym, ◌∙◌, arith}
+use Rattle.std.proofs.Common.{◌≡◌, [], length, rules, arith}
 use Rattle.qrexec_c.proofs.GatherLaws.{number_begun, header_split}
 use Rattle.qrexec_c.proofs.gather.len_told.Goals as goal
 

@@ -1,12 +1,10 @@
-use Rattle.std.proofs.Common.{rules, inl, inr, ◌≡◌, ◌≤◌, ◌+◌, ◌++◌, ◌<◌, ◌%◌, ◌^◌, ℕ, List, length, take, drop, Some, refl, sym, ◌∙◌, ap, subst, arith}
-use Rattle.std.proofs.lemmas.List.{length-take-le}
-use Rattle.qrexec_frame.specs.declared.kind.Channel.{Channel}
+use Rattle.std.proofs.Common.{rules, ◌≡◌, ◌≤◌, ◌+◌, ◌++◌, ◌%◌, ◌^◌, ℕ, List, length, take, drop, refl, sym, ◌∙◌, ap, subst, arith}
 use Rattle.qrexec_frame.specs.Kinds.{number_of}
 use Rattle.qrexec_c.specs.declared.reader.Reader.{Reader}
 use Rattle.qrexec_frame.specs.Fronts.{front, made}
 use Rattle.qrexec_frame.specs.Streams.{Short}
 use Rattle.qrexec_frame.proofs.SpellingLaws.{kind_of_made}
-use Rattle.qrexec_c.specs.Readers.{channel_of, fault_in, IsNext, IsFault, Stands}
+use Rattle.qrexec_c.specs.Readers.{fault_in, IsNext, IsFault, Stands}
 use Rattle.qrexec_c.specs.Gathers.{came, with_piece}
 use Rattle.qrexec_c.proofs.Places.{body_there}
 use Rattle.qrexec_c.proofs.Streams.{more_stands, next_message, fault_reads}

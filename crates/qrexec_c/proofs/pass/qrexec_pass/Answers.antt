@@ -1,4 +1,4 @@
-use Rattle.std.proofs.Common.{◌≡◌, ◌+◌, ◌-◌, length, arith}
+use Rattle.std.proofs.Common.{◌-◌, arith}
 use Rattle.qrexec_c.proofs.PassLaws.{passes_on, passes_whole, reads_part, reads_whole}
 use Rattle.qrexec_c.proofs.pass.qrexec_pass.Goals as goal
 

@@ -1,6 +1,6 @@
-use Rattle.std.proofs.Common.{rules, ◌≡◌, ◌≤◌, ◌<◌, ◌+◌, ◌++◌, [], ◌∷◌, length, take, sym, ◌∙◌, ap, arith, length-append}
+use Rattle.std.proofs.Common.{rules, ◌≡◌, ◌++◌, length, take, arith}
 use Rattle.qrexec_frame.specs.Messages.{four}
-use Rattle.qrexec_frame.specs.Texts.{padded, ended}
+use Rattle.qrexec_frame.specs.Texts.{padded}
 use Rattle.qrexec_frame.proofs.WrittenLaws.{length_padded}
 use Rattle.qrexec_c.proofs.PutLaws.{laid_three}
 use Rattle.qrexec_c.proofs.put.lay_connect.Goals as goal

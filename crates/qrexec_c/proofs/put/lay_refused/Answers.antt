@@ -1,6 +1,5 @@
-use Rattle.std.proofs.Common.{rules, ◌≡◌, ◌≤◌, ◌<◌, ◌+◌, ◌++◌, [], ◌∷◌, length, take, sym, ◌∙◌, ap, arith, length-append}
-use Rattle.qrexec_frame.specs.Messages.{four}
-use Rattle.qrexec_frame.specs.Texts.{padded, ended}
+use Rattle.std.proofs.Common.{rules, ◌≡◌, length, take, sym, arith}
+use Rattle.qrexec_frame.specs.Texts.{padded}
 use Rattle.qrexec_frame.proofs.WrittenLaws.{length_padded}
 use Rattle.qrexec_c.proofs.PutLaws.{laid_one}
 use Rattle.qrexec_c.proofs.put.lay_refused.Goals as goal

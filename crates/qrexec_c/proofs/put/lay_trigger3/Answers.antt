@@ -1,5 +1,4 @@
-use Rattle.std.proofs.Common.{rules, ◌≡◌, ◌≤◌, ◌<◌, ◌+◌, ◌++◌, [], ◌∷◌, length, take, sym, ◌∙◌, ap, arith, length-append}
-use Rattle.qrexec_frame.specs.Messages.{four}
+use Rattle.std.proofs.Common.{rules, ◌≡◌, ◌+◌, ◌++◌, [], ◌∷◌, length, take, arith, length-append}
 use Rattle.qrexec_frame.specs.Texts.{padded, ended}
 use Rattle.qrexec_frame.proofs.WrittenLaws.{length_padded}
 use Rattle.qrexec_c.proofs.PutLaws.{laid_three}

@@ -1,11 +1,8 @@
-use Rattle.std.proofs.Common.{rules, ◌≡◌, ◌≤◌, ◌<◌, ◌+◌, length, ◌∙◌, ap, arith}
+use Rattle.std.proofs.Common.{rules, ◌+◌, length, arith}
 use Rattle.qrexec_frame.specs.declared.message.Message.TheVariants.{JustExec}
 use Rattle.qrexec_frame.specs.Messages.{Fits}
-use Rattle.qrexec_c.proofs.PutLaws.{puts_written, puts_none}
+use Rattle.qrexec_c.proofs.PutLaws.{puts_written}
 use Rattle.qrexec_c.proofs.put.qrexec_put_just_exec.Goals as goal
-
-pub returns-then-out-line : goal.returns-then-out-line
-returns-then-out-line c = puts_none (JustExec c.args.domain c.args.port c.args.line.now) c.args.out.now (λ fits. omega (arith, c.if-out-line.true))
 
 pub returns : goal.returns
 returns c =

@@ -1,11 +1,9 @@
-use Rattle.std.proofs.Common.{◌≡◌, ◌+◌, List, ℕ, length, take, drop, sym, subst, ap, ◌∙◌, Some, refl}
-use Rattle.qrexec_frame.specs.declared.kind.Channel.{Channel}
+use Rattle.std.proofs.Common.{◌≡◌, length, take, drop, sym, ap, ◌∙◌, refl}
 use Rattle.qrexec_frame.specs.Kinds.{number_of}
 use Rattle.qrexec_frame.specs.Fronts.{made}
 use Rattle.qrexec_frame.proofs.SpellingLaws.{kind_of_made}
-use Rattle.qrexec_c.specs.Readers.{channel_of, fault_in}
-use Rattle.qrexec_frame.specs.Grammar.{Fault}
-use Rattle.qrexec_c.specs.Readers.{IsNext, IsFault, IsLess}
+use Rattle.qrexec_c.specs.Readers.{fault_in}
+use Rattle.qrexec_c.specs.Readers.{IsFault, IsLess}
 use Rattle.qrexec_c.proofs.Places.{body_there}
 use Rattle.qrexec_c.proofs.Streams.{less_reads, next_message, fault_reads, faulted_reads}
 use Rattle.qrexec_c.proofs.reader.qrexec_next.Goals as goal
