@@ -1,14 +1,15 @@
 -- How numbers and places tell a message.
-use Rattle.std.specs.Prelude.{◌≡◌, ℕ, List, take, drop}
+use Rattle.std.specs.Prelude.{◌≡◌, ℕ, ◌+◌, ◌≤◌, List, length, take, drop}
 use Rattle.std.specs.Int.{w32, cast_signed}
 use Rattle.qrexec_frame.specs.declared.message.Message.{Message}
 use Rattle.qrexec_frame.specs.declared.message.Message.TheVariants.{Hello, Stdin, Stdout, Stderr, ExitCode, Exec, JustExec, Connect, Refused, Terminated, Trigger3, Trigger}
 use Rattle.qrexec_c.specs.declared.found.Found.{Found}
 use Rattle.qrexec_c.specs.declared.found.Span.{Span}
 
--- the text lies at this place of the bytes
-abbrev pub IsAt : Span → List ℕ → List ℕ → Type 0
-IsAt span bytes text = take span.len (drop span.at bytes) ≡ text
+-- the text lies at this place, within the bytes
+pub record IsAt (span : Span) (bytes text : List ℕ) : Type 0 where
+  pub within : span.at + span.len ≤ length bytes
+  pub text_is : take span.len (drop span.at bytes) ≡ text
 
 -- the numbers tell the message, whose bytes begin the list
 abbrev pub Tells : Found → List ℕ → Message → Type 0
