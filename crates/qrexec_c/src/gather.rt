@@ -103,7 +103,7 @@ pub extern "C" fn qrexec_gather(gather: &mut Gather, piece: &[u8], found: &mut F
     ensures bytes { result ≡ 1 → take (gather.old.got + gather.new.taken) gather.new.bytes ≡ with_piece gather.old piece.now gather.new.taken }
     ensures fault { result ≡ 2 → gather.old.reader.fault ≡ 0 → (channel : Channel) → channel_of gather.old.reader.channel ≡ Some channel →
         IsFault channel (with_piece gather.old piece.now gather.new.taken) gather.old.reader gather.new.reader }
-    ensures faulted { gather.old.reader.fault ≢ 0 → gather.new ≡ gather.old }
+    ensures faulted { gather.old.reader.fault ≢ 0 → (gather.new ≡ gather.old) × ((result ≡ 2) ⊎ (result ≡ 3)) }
 
     // However the stream is cut, what is told is what all its bytes hold.
     ensures stream_less { (result ≡ 0) ⊎ (result ≡ 4) → (channel : Channel) → channel_of gather.old.reader.channel ≡ Some channel →
