@@ -1,0 +1,5 @@
+pub mod Places
+pub mod Streams
+pub mod PassLaws
+pub mod GatherLaws
+pub mod PutLaws

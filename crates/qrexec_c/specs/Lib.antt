@@ -1,0 +1,6 @@
+pub mod Founds
+pub mod Readers
+pub mod Passings
+pub mod Gathers
+pub mod Puts
+pub mod Laws
