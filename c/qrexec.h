@@ -7,7 +7,7 @@
  * memmove and memset. A pointer to bytes may be NULL if their count is 0. The bytes, the struct and what is found must
  * not overlap, and must not change during a call: on a page that a peer writes, copy the bytes first.
  *
- * The types, bodies and limits are those of docs/MESSAGES.md, versions 2 and 3 of the protocol.
+ * The types, bodies and limits are those of docs/QREXEC.md, versions 2 and 3 of the protocol.
  */
 #ifndef QREXEC_H
 #define QREXEC_H
