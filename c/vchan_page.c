@@ -72,7 +72,7 @@ static bool end_call(const struct vchan_page *page, const struct vchan_step *ste
 		asked = asked & bits ? __atomic_fetch_and(word, (uint8_t)~bits, __ATOMIC_SEQ_CST) & bits : 0;
 		return !asked || signal_peer(page);
 	}
-	if (step->kind == VCHAN_GREET) {
+	if (step->kind == VCHAN_ANNOUNCE) {
 		__atomic_fetch_or(word, bits, __ATOMIC_SEQ_CST);
 		return signal_peer(page);
 	}
@@ -129,7 +129,7 @@ static int make(struct vchan_page *page, enum vchan_call call, size_t size, cons
 			store(page, step.store_offset, step.store_width, step.stored);
 		if (step.signals)
 			heard = signal_peer(page);
-		if (step.kind == VCHAN_ANSWER || step.kind == VCHAN_NOTIFY || step.kind == VCHAN_GREET)
+		if (step.kind == VCHAN_ANSWER || step.kind == VCHAN_NOTIFY || step.kind == VCHAN_ANNOUNCE)
 			return end_call(page, &step) && heard ? answer(&step) : -1;
 		value = awaited(page, &step);
 		look = step.look_width && value ? load(page, step.look_offset, step.look_width) : 0;
