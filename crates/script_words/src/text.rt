@@ -1,7 +1,7 @@
 //! Words of lines, each appended to the text that was printed before.
 //!
 //! It serves what prints lines: the answers of scripts, reports of runs, and further texts of the program.
-ghost use Rattle.std.specs.Prelude.{◌≡◌, ◌+◌, ◌≤◌, ◌++◌, ◌∷◌, [], vec_len, vec_capacity, OnOk};
+ghost use Rattle.std.specs.Prelude.{◌≡◌, ◌++◌, ◌∷◌, [], OnOk};
 ghost use Rattle.hex.specs.Hex.{encode_lower};
 ghost use Rattle.script_words.specs.Text.{shown_bytes, spaced};
 
@@ -11,12 +11,6 @@ use std::alloc::AllocError;
 
 /// Up to this many bytes are printed one by one.
 const FEW: usize = 8;
-
-/// From this many bytes on a text is long.
-const LONG: usize = 1 << 20;
-
-/// Room for words that follow and make none for themselves.
-const SHORT_WORDS: usize = 4096;
 
 /// The hexadecimal digits.
 const DIGITS: &[u8; 16] = b"0123456789abcdef";
@@ -84,24 +78,8 @@ fn push_much_hex(out: &mut Vec<u8>, bytes: &[u8]) -> Result<(), AllocError>
     let Some(room) = bytes.len().checked_mul(2) else {
         return Err(AllocError);
     };
-    make_room(out, room)?;
+    out.reserve(room)?;
     out.resize(start + room, 0)?;
     encode_digits(bytes, &mut out[start..]);
     Ok(())
-}
-
-/// Makes room for so many bytes more, and for short words behind them. A long text grows by a sixteenth and
-/// not to twice its length, as all of it is held until it is written.
-fn make_room(out: &mut Vec<u8>, more: usize) -> Result<(), AllocError>
-    ensures text { OnOk result (out.new.items ≡ out.old.items) }
-    ensures room { OnOk result (vec_len out.new + more ≤ vec_capacity out.new) }
-{
-    let more = more.saturating_add(SHORT_WORDS);
-    if out.len() < LONG {
-        out.reserve(more)
-    } else if out.capacity() - out.len() < more {
-        out.reserve_exact(more.max(out.len() / 16))
-    } else {
-        Ok(())
-    }
 }
