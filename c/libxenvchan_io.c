@@ -75,10 +75,7 @@ static bool notify(void *context)
 	return xenevtchn_notify(of->event, of->event_port) == 0;
 }
 
-static bool has_heard(const struct shared *end, unsigned long seen)
-{
-	return __atomic_load_n(&end->signals, __ATOMIC_SEQ_CST) != seen;
-}
+static bool has_heard(const struct shared *end, unsigned long seen) { return __atomic_load_n(&end->signals, __ATOMIC_SEQ_CST) != seen; }
 
 /* One waits on the event channel, and its signal is one for all that wait, each of which makes its call again. The
  * next one stands at the door, so that who has heard a signal can't be the first to wait again. */
@@ -129,9 +126,12 @@ static struct shared *adopt(struct libxenvchan *of)
 		.notify = notify, .wait_for_event = wait_for_event, .context = end,
 	};
 
-	if (!end || vchan_page_open(&end->page, &with))
+	if (end && vchan_page_open(&end->page, &with)) {
+		munmap(end, sizeof *end);
 		return NULL;
-	end->of = of;
+	}
+	if (end)
+		end->of = of;
 	return end;
 }
 

@@ -30,9 +30,9 @@ enum vchan_refusal {
 
 /* What a step awaits: nothing, since it has the answer; the value of a word; or only that the caller goes on.
  * With VCHAN_NOTIFY it has the answer, and the caller ends the call with a notify: it clears the bits in the
- * word, at once, and signals the peer if the word had them. With VCHAN_GREET it has the answer of a connect, and
+ * word, at once, and signals the peer if the word had them. With VCHAN_ANNOUNCE it has the answer of a connect, and
  * the caller ends that as libxenvchan does: it sets the bits in the word, at once, and then signals the peer. */
-enum vchan_kind { VCHAN_ANSWER, VCHAN_LOAD, VCHAN_OR, VCHAN_NOTIFY, VCHAN_SWAP, VCHAN_FURTHER, VCHAN_GREET };
+enum vchan_kind { VCHAN_ANSWER, VCHAN_LOAD, VCHAN_OR, VCHAN_NOTIFY, VCHAN_SWAP, VCHAN_FURTHER, VCHAN_ANNOUNCE };
 
 enum vchan_moves { VCHAN_NOTHING, VCHAN_PUT, VCHAN_TAKE };
 

@@ -13,11 +13,7 @@ static int refuse(int error)
 }
 
 static size_t size_of(uint32_t order) { return (size_t)1 << order; }
-
-static uint8_t *byte_at(const struct vchan_page *page, uint16_t offset)
-{
-	return (uint8_t *)page->with.front + offset;
-}
+static uint8_t *byte_at(const struct vchan_page *page, uint16_t offset) { return (uint8_t *)page->with.front + offset; }
 
 /* Each load and each store is a single access, and all are sequentially consistent. */
 static uint64_t load(const struct vchan_page *page, uint16_t offset, uint8_t width)
@@ -56,11 +52,6 @@ static void move_bytes(const struct vchan_page *page, const struct vchan_step *s
 	}
 }
 
-static bool signal_peer(const struct vchan_page *page)
-{
-	return page->with.notify(page->with.context);
-}
-
 /* Ends a call. Returns false if the peer can't be signalled. An and that finds none of its bits changes nothing, so a
  * load that finds none is that and. */
 static bool end_call(const struct vchan_page *page, const struct vchan_step *step)
@@ -70,11 +61,11 @@ static bool end_call(const struct vchan_page *page, const struct vchan_step *ste
 	if (step->kind == VCHAN_NOTIFY) {
 		__atomic_load(word, &asked, __ATOMIC_SEQ_CST);
 		asked = asked & bits ? __atomic_fetch_and(word, (uint8_t)~bits, __ATOMIC_SEQ_CST) & bits : 0;
-		return !asked || signal_peer(page);
+		return !asked || page->with.notify(page->with.context);
 	}
-	if (step->kind == VCHAN_GREET) {
+	if (step->kind == VCHAN_ANNOUNCE) {
 		__atomic_fetch_or(word, bits, __ATOMIC_SEQ_CST);
-		return signal_peer(page);
+		return page->with.notify(page->with.context);
 	}
 	return true;
 }
@@ -128,8 +119,8 @@ static int make(struct vchan_page *page, enum vchan_call call, size_t size, cons
 		if (step.store_width)
 			store(page, step.store_offset, step.store_width, step.stored);
 		if (step.signals)
-			heard = signal_peer(page);
-		if (step.kind == VCHAN_ANSWER || step.kind == VCHAN_NOTIFY || step.kind == VCHAN_GREET)
+			heard = page->with.notify(page->with.context);
+		if (step.kind == VCHAN_ANSWER || step.kind == VCHAN_NOTIFY || step.kind == VCHAN_ANNOUNCE)
 			return end_call(page, &step) && heard ? answer(&step) : -1;
 		value = awaited(page, &step);
 		look = step.look_width && value ? load(page, step.look_offset, step.look_width) : 0;

@@ -8,9 +8,9 @@
  * waits is made again after each signal, vchan_page_wait is the caller's own wait, and a server that `persists`
  * takes 1 for its client's live byte in place of a load.
  *
- * Only one thread may use an end at a time. A callback must not make a call on the same end. Two processes use
- * one end only if its struct vchan_page lies in memory that they share, and a lock of theirs is held for each
- * call: a copy has counts of its own, and bytes are lost.
+ * Only one thread may use an end at a time. A callback must not make a call on the same end. A process and one that
+ * it forks use one end only if its struct vchan_page lies in memory that they share, and a lock of theirs is held
+ * for each call: a copy has counts of its own, and bytes are lost.
  */
 #ifndef VCHAN_PAGE_H
 #define VCHAN_PAGE_H

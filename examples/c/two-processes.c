@@ -105,7 +105,7 @@ int main(int words, char **word)
 	bool is_strict = false, kills = false;
 	struct vchan_places places;
 	struct stat status;
-	int page = memfd_create("page", 0), file, fd[2] = { eventfd(0, 0), eventfd(0, 0) }, ended;
+	int page = memfd_create("page", MFD_ALLOW_SEALING), file, fd[2] = { eventfd(0, 0), eventfd(0, 0) }, ended;
 	char *bytes, *got[2], *memory;
 	size_t *count;
 	pid_t child[2], gone;
@@ -117,8 +117,8 @@ int main(int words, char **word)
 		err(2, "usage: two-processes [--strict] [--kill] FILE");
 	bytes = mmap(NULL, (size_t)status.st_size + 1, PROT_READ, MAP_PRIVATE | MAP_POPULATE, file, 0);
 	vchan_page_places(LEFT_ORDER, RIGHT_ORDER, &places);
-	if (bytes == MAP_FAILED || page < 0 || ftruncate(page, (off_t)places.size))
-		err(1, "a page for %s", word[1]);
+	if (bytes == MAP_FAILED || page < 0 || ftruncate(page, (off_t)places.size) || fcntl(page, F_ADD_SEALS, F_SEAL_SHRINK | F_SEAL_SEAL))
+		err(1, "a page for %s", word[1]); /* sealed, since who touches a page that was cut off is killed */
 	memory = map(page, places.size);
 	vchan_page_lay((struct vchan_front *)memory, LEFT_ORDER, RIGHT_ORDER);
 	count = (size_t *)map(-1, 2 * sizeof *count);

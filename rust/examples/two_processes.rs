@@ -25,7 +25,13 @@ const RIGHT_ORDER: u16 = 11;
 unsafe extern "C" {
     fn memfd_create(name: *const c_char, flags: c_uint) -> c_int;
     fn eventfd(count: c_uint, flags: c_int) -> c_int;
+    fn fcntl(file: c_int, command: c_int, what: c_int) -> c_int;
 }
+
+const MAY_SEAL: c_uint = 2;
+const ADD_SEALS: c_int = 1033;
+/// No shrinking, and no other seal: a process that touches a page that was cut off is killed.
+const NO_SHRINKING: c_int = 2 | 1;
 
 /// An end's eventfd, and its peer's.
 struct EventFds {
@@ -135,9 +141,16 @@ fn main() -> Result<(), Box<dyn Error>> {
     // SAFETY: the name ends with a 0, and each descriptor is new; the children inherit them.
     let (page, events) = unsafe {
         let events = [eventfd(0, 0), eventfd(0, 0)].map(|it| File::from_raw_fd(it));
-        (File::from_raw_fd(memfd_create(c"page".as_ptr(), 0)), events)
+        (
+            File::from_raw_fd(memfd_create(c"page".as_ptr(), MAY_SEAL)),
+            events,
+        )
     };
     let map = Map::lay(&page, LEFT_ORDER, RIGHT_ORDER)?;
+    // SAFETY: the descriptor is open.
+    if unsafe { fcntl(page.as_raw_fd(), ADD_SEALS, NO_SHRINKING) } != 0 {
+        return Err(io::Error::last_os_error().into());
+    }
     let start = |role: &str, own: &File, peer: &File| {
         let numbers = [&page, own, peer].map(|it| it.as_raw_fd().to_string());
         let dies = role == "client" && words[0] == "--kill";

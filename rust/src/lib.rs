@@ -132,7 +132,7 @@ const ANSWER: u8 = 0;
 const OR: u8 = 2;
 const NOTIFY: u8 = 3;
 const SWAP: u8 = 4;
-const GREET: u8 = 6;
+const ANNOUNCE: u8 = 6;
 
 #[derive(Clone, Copy)]
 enum Call {
@@ -384,7 +384,7 @@ impl<'page, E: Events> End<'page, E> {
                     .store(step.store_offset, step.store_width, step.stored);
             }
             let mut signals = step.signals != 0;
-            if let ANSWER | NOTIFY | GREET = step.kind {
+            if let ANSWER | NOTIFY | ANNOUNCE = step.kind {
                 signals |= self.end_call(&step);
                 if signals {
                     self.events.notify().map_err(Error::Notify)?;
@@ -439,7 +439,7 @@ impl<'page, E: Events> End<'page, E> {
                 let word = self.page.head.byte(step.offset);
                 word.load(SeqCst) & bits != 0 && word.fetch_and(!bits, SeqCst) & bits != 0
             }
-            GREET => {
+            ANNOUNCE => {
                 self.page.head.byte(step.offset).fetch_or(bits, SeqCst);
                 true
             }

@@ -143,8 +143,8 @@ impl Places {
     }
 }
 
-/// A page with its rings, mapped from a file that two processes share, as one of `memfd_create`. The file's length must
-/// stay: a process that touches a page that was cut off is killed.
+/// A page with its rings, mapped from a file that two processes share, as one of `memfd_create`. The file must not become
+/// shorter, or a process that touches what was cut off is killed: seal it (`F_SEAL_SHRINK`), as the example does.
 #[derive(Debug)]
 pub struct Map {
     start: *mut u8,

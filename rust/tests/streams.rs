@@ -84,7 +84,7 @@ fn ends<'page>(maps: &'page (Map, Map)) -> (End<'page, Line>, End<'page, Line>) 
 fn a_stream_is_read_to_its_end() {
     let maps = maps("stream", 10, 13);
     let (mut server, mut client) = ends(&maps);
-    let sent: Vec<u8> = (0..100_000u32).map(|it| (it * 7 >> 3) as u8).collect();
+    let sent: Vec<u8> = (0..100_000u32).map(|it| ((it * 7) >> 3) as u8).collect();
     let got = thread::scope(|scope| {
         scope.spawn(|| {
             client.stream().write_all(&sent).unwrap();

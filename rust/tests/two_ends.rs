@@ -1,5 +1,4 @@
 //! Two ends on one page, in two threads: two ends of this crate, and one of this crate beside one of c/vchan_page.h.
-use std::ffi::{c_int, c_void};
 use std::io;
 use std::sync::atomic::AtomicU8;
 use std::sync::mpsc::{channel, Receiver, Sender};
@@ -125,107 +124,114 @@ fn bad_pages_are_refused() {
     assert!(matches!(End::server(page, line().0), Err(Error::BadOrders)));
 }
 
-/// Room for a struct vchan_page of c/vchan_page.h.
-#[repr(C, align(16))]
-struct CPage([u64; 32]);
-
-/// A struct vchan_setup of it.
-#[repr(C)]
-struct CSetup {
-    role: c_int,
-    state: c_int,
-    front: *mut c_void,
-    left: *mut c_void,
-    right: *mut c_void,
-    left_order: u32,
-    right_order: u32,
-    prod: u32,
-    cons: u32,
-    notify: extern "C" fn(*mut c_void) -> bool,
-    take_event: Option<extern "C" fn(*mut c_void) -> bool>,
-    wait_for_event: Option<extern "C" fn(*mut c_void) -> bool>,
-    context: *mut c_void,
-    persists: bool,
-}
-
-extern "C" {
-    fn vchan_page_open(page: *mut CPage, with: *const CSetup) -> c_int;
-    fn vchan_page_connect(page: *mut CPage) -> c_int;
-    fn vchan_page_read_wait(page: *mut CPage, data: *mut c_void, size: usize) -> c_int;
-    fn vchan_page_write_all(page: *mut CPage, data: *const c_void, size: usize) -> c_int;
-    fn vchan_page_close(page: *mut CPage) -> c_int;
-}
-
-extern "C" fn notify(line: *mut c_void) -> bool {
-    unsafe { &mut *line.cast::<Line>() }.notify().is_ok()
-}
-
-extern "C" fn wait(line: *mut c_void) -> bool {
-    unsafe { &mut *line.cast::<Line>() }.wait().is_ok()
-}
-
-/// A client in C that sends each byte back.
-fn echo_in_c(page: Page, orders: (u16, u16), mut line: Line) {
-    let mut end = CPage([0; 32]);
-    let start = |ring: &[AtomicU8]| ring.as_ptr().cast_mut().cast::<c_void>();
-    let with = CSetup {
-        role: 1,
-        state: 0,
-        front: std::ptr::from_ref(page.head).cast_mut().cast::<c_void>(),
-        left: start(page.left),
-        right: start(page.right),
-        left_order: orders.0.into(),
-        right_order: orders.1.into(),
-        prod: 0,
-        cons: 0,
-        notify,
-        take_event: None,
-        wait_for_event: Some(wait),
-        context: (&raw mut line).cast::<c_void>(),
-        persists: false,
-    };
-    let mut buffer = [0u8; 600];
-    unsafe {
-        assert_eq!(vchan_page_open(&mut end, &with), 0);
-        assert_eq!(vchan_page_connect(&mut end), 0);
-        let mut at = 0;
-        while at < TOTAL {
-            let count = vchan_page_read_wait(&mut end, buffer.as_mut_ptr().cast(), buffer.len());
-            assert!(count > 0);
-            assert_eq!(
-                vchan_page_write_all(&mut end, buffer.as_ptr().cast(), count as usize),
-                count
-            );
-            at += count as usize;
-        }
-        assert_eq!(vchan_page_close(&mut end), 0);
-    }
-}
-
+/// Beside an end of c/vchan_page.h.
 #[cfg(in_repository)]
-#[test]
-fn bytes_come_back_from_c() {
-    let orders = (11, 12);
-    let (head, left, right) = (Head::new(orders.0, orders.1), ring(11), ring(12));
-    let page = Page {
-        head: &head,
-        left: &left,
-        right: &right,
-    };
-    let (one, two) = line();
-    let mut server = End::server(page, one).unwrap();
-    thread::scope(|scope| {
-        scope.spawn(|| echo_in_c(page, orders, two));
-        let bytes: Vec<u8> = (0..TOTAL).map(pattern).collect();
-        let mut back = [0; 500];
-        for piece in bytes.chunks(500) {
-            server.write_all(piece).unwrap();
-            let mut got = 0;
-            while got < piece.len() {
-                got += server.read_wait(&mut back[got..piece.len()]).unwrap();
+mod in_c {
+    use super::*;
+    use std::ffi::{c_int, c_void};
+
+    /// Room for a struct vchan_page of c/vchan_page.h.
+    #[repr(C, align(16))]
+    struct CPage([u64; 32]);
+
+    /// A struct vchan_setup of it.
+    #[repr(C)]
+    struct CSetup {
+        role: c_int,
+        state: c_int,
+        front: *mut c_void,
+        left: *mut c_void,
+        right: *mut c_void,
+        left_order: u32,
+        right_order: u32,
+        prod: u32,
+        cons: u32,
+        notify: extern "C" fn(*mut c_void) -> bool,
+        take_event: Option<extern "C" fn(*mut c_void) -> bool>,
+        wait_for_event: Option<extern "C" fn(*mut c_void) -> bool>,
+        context: *mut c_void,
+        persists: bool,
+    }
+
+    extern "C" {
+        fn vchan_page_open(page: *mut CPage, with: *const CSetup) -> c_int;
+        fn vchan_page_connect(page: *mut CPage) -> c_int;
+        fn vchan_page_read_wait(page: *mut CPage, data: *mut c_void, size: usize) -> c_int;
+        fn vchan_page_write_all(page: *mut CPage, data: *const c_void, size: usize) -> c_int;
+        fn vchan_page_close(page: *mut CPage) -> c_int;
+    }
+
+    extern "C" fn notify(line: *mut c_void) -> bool {
+        unsafe { &mut *line.cast::<Line>() }.notify().is_ok()
+    }
+
+    extern "C" fn wait(line: *mut c_void) -> bool {
+        unsafe { &mut *line.cast::<Line>() }.wait().is_ok()
+    }
+
+    /// A client in C that sends each byte back.
+    fn echo_in_c(page: Page, orders: (u16, u16), mut line: Line) {
+        let mut end = CPage([0; 32]);
+        let start = |ring: &[AtomicU8]| ring.as_ptr().cast_mut().cast::<c_void>();
+        let with = CSetup {
+            role: 1,
+            state: 0,
+            front: std::ptr::from_ref(page.head).cast_mut().cast::<c_void>(),
+            left: start(page.left),
+            right: start(page.right),
+            left_order: orders.0.into(),
+            right_order: orders.1.into(),
+            prod: 0,
+            cons: 0,
+            notify,
+            take_event: None,
+            wait_for_event: Some(wait),
+            context: (&raw mut line).cast::<c_void>(),
+            persists: false,
+        };
+        let mut buffer = [0u8; 600];
+        unsafe {
+            assert_eq!(vchan_page_open(&mut end, &with), 0);
+            assert_eq!(vchan_page_connect(&mut end), 0);
+            let mut at = 0;
+            while at < TOTAL {
+                let count =
+                    vchan_page_read_wait(&mut end, buffer.as_mut_ptr().cast(), buffer.len());
+                assert!(count > 0);
+                assert_eq!(
+                    vchan_page_write_all(&mut end, buffer.as_ptr().cast(), count as usize),
+                    count
+                );
+                at += count as usize;
             }
-            assert_eq!(&back[..got], piece);
+            assert_eq!(vchan_page_close(&mut end), 0);
         }
-    });
-    assert!(matches!(server.drain(&mut [0]), Err(Error::PeerClosed)));
+    }
+
+    #[test]
+    fn bytes_come_back_from_c() {
+        let orders = (11, 12);
+        let (head, left, right) = (Head::new(orders.0, orders.1), ring(11), ring(12));
+        let page = Page {
+            head: &head,
+            left: &left,
+            right: &right,
+        };
+        let (one, two) = line();
+        let mut server = End::server(page, one).unwrap();
+        thread::scope(|scope| {
+            scope.spawn(|| echo_in_c(page, orders, two));
+            let bytes: Vec<u8> = (0..TOTAL).map(pattern).collect();
+            let mut back = [0; 500];
+            for piece in bytes.chunks(500) {
+                server.write_all(piece).unwrap();
+                let mut got = 0;
+                while got < piece.len() {
+                    got += server.read_wait(&mut back[got..piece.len()]).unwrap();
+                }
+                assert_eq!(&back[..got], piece);
+            }
+        });
+        assert!(matches!(server.drain(&mut [0]), Err(Error::PeerClosed)));
+    }
 }

@@ -8,6 +8,7 @@
 #include <errno.h>
 #include <poll.h>
 #include <pthread.h>
+#include <signal.h>
 #include <stdio.h>
 #include <stdlib.h>
 #include <string.h>
@@ -625,9 +626,44 @@ static void misuse(void)
 	clear(&line);
 }
 
+static bool die(void *context)
+{
+	(void)context;
+	raise(SIGKILL);
+	return false;
+}
+
+/* An end in memory that two processes share goes on from what the other one did; a process that dies inside a call leaves
+ * it there, and each later call says so. */
+static void shared_end(void)
+{
+	struct vchan_page *end = shared(sizeof *end);
+	struct line line;
+	struct vchan_setup with;
+	uint8_t data[8];
+	pid_t child;
+	int status;
+
+	lay(&line, shared, 11, 12, 0);
+	with = setup_of(&line, 0, 0);
+	CHECK(vchan_page_open(end, &with) == 0 && vchan_page_write(end, "ab", 2) == 2);
+	child = fork();
+	if (!child) {
+		vchan_page_write(end, "cd", 2);
+		end->with.take_event = die;
+		vchan_page_take_event(end);
+		_exit(0);
+	}
+	CHECK(child > 0 && waitpid(child, &status, 0) == child && WIFSIGNALED(status));
+	CHECK(vchan_page_read(&line.end[1], data, sizeof data) == 4 && !memcmp(data, "abcd", 4));
+	REFUSES(vchan_page_write(end, "e", 1), EBUSY);
+	REFUSES(vchan_page_close(end), EBUSY);
+}
+
 int main(void)
 {
 	misuse();
+	shared_end();
 	any_bytes(300000);
 	for (size_t i = 0; i < PAIRS; i++) {
 		int left = orders[i][0], right = orders[i][1];

@@ -102,7 +102,7 @@ numbers_of_event (Store word value) = (5, 0, 0, 0)
 numbers_of_event (StoreByte word at) = (5, 0, 0, 0)
 numbers_of_event Nothing = (5, 0, 0, 0)
 
--- What comes with an answer. Behind its connect a client greets: it sets the bit that asks for signals for data, and
+-- What comes with an answer. Behind its connect a client announces itself: it sets the bit that asks for signals for data, and
 -- signals the server. Source: libxenvchan_client_init in Xen's tools/libs/vchan/init.c; the table's Connect does neither.
 abbrev pub numbers_of_answered : Answer → ℕ × ℕ × ℕ × ℕ
 numbers_of_answered Connected = (6, offset_of (ask_word Client), width_of (ask_word Client), mask Written)

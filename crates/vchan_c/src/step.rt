@@ -11,8 +11,8 @@ use vchan_core::{Answer, AnswerNumbers, Bit, Op};
 /// What a caller does next, in this order: it moves bytes, stores a number, signals its peer, and
 /// then makes the event whose value is awaited, or has the answer of its call. If there is a word to look
 /// at, it is loaded after the awaited one, unless that one was 0. A notify clears the bits in its word, at
-/// once, and signals the peer if the word had them. A greeting sets the bits in its word, at once, and then signals
-/// the peer: so a client begins that has connected, as in libxenvchan's client init.
+/// once, and signals the peer if the word had them. An announcement sets the bits in its word, at once,
+/// and then signals the peer: so ends a connect, as in libxenvchan's client init.
 ///
 /// A word is given by its offset in Xen's `struct vchan_interface` and its width in bytes. A word that
 /// Xen's page doesn't have has the width 0: nothing is done there, and a load or a swap takes what the
@@ -22,9 +22,9 @@ use vchan_core::{Answer, AnswerNumbers, Bit, Op};
 pub struct Step {
     /// What is awaited: 0 nothing, and the answer is in this step; 1 a load; 2 an or; 3 nothing, the answer is
     /// in this step, and the call ends with a notify; 4 a swap; 5 nothing, and the call goes on; 6 nothing, the answer
-    /// is in this step, and the call ends with a greeting.
+    /// is in this step, and the call ends with an announcement.
     pub kind: u8,
-    /// The width of the awaited word, or of the notify's or the greeting's, in bytes.
+    /// The width of the awaited word, or of the notify's or the announcement's, in bytes.
     pub width: u8,
     /// The offset of that word.
     pub offset: u16,
@@ -60,7 +60,7 @@ pub struct Step {
     pub spare: u16,
     /// The number to store.
     pub stored: u64,
-    /// The bits of an or, those that a notify clears or a greeting sets, or what a swap stores.
+    /// The bits of an or, those that a notify clears or an announcement sets, or what a swap stores.
     pub bits: u64,
 }
 
@@ -138,7 +138,7 @@ fn stored(store: &Option<Stored>) -> (u16, u8, u64)
     }
 }
 
-/// What is awaited, the notify or the greeting: its kind, the offset and the width of its word, and its number.
+/// What is awaited, the notify or the announcement: its kind, the offset and the width of its word, and its number.
 #[derive(Clone, Copy)]
 struct Awaited {
     kind: u8,
@@ -175,7 +175,7 @@ impl Awaited {
         }
     }
 
-    /// Returns what comes with an answer: of a connect the greeting.
+    /// Returns what comes with an answer: of a connect the announcement.
     #[inline(always)]
     fn with(answer: Answer) -> Awaited
         ensures kind { result.kind ≡ (numbers_of_answered answer).0 }
@@ -224,7 +224,7 @@ fn looked(last: Last) -> (u16, u8)
     }
 }
 
-/// Returns what comes after a stretch: what is awaited, the notify or the greeting, and the answer.
+/// Returns what comes after a stretch: what is awaited, the notify or the announcement, and the answer.
 #[inline(always)]
 fn ended(last: Last) -> (Awaited, AnswerNumbers)
     ensures kind { result.0.kind ≡ (numbers_of_last last).0 }
