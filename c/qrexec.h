@@ -16,6 +16,8 @@
 #include <stddef.h>
 #include <stdint.h>
 
+#define QREXEC_VERSION "0.1.0"
+
 #ifdef __GNUC__
 #define QREXEC_NONNULL(...) __attribute__((nonnull(__VA_ARGS__)))
 #else

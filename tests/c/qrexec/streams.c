@@ -6,6 +6,7 @@
  *   streams SECONDS seconds   plays rounds for so long, each time from another seed
  *   streams stream CHANNEL N  prints the N-th stream in hexadecimal, in pieces, as `vchan decode` takes it
  *   streams lines CHANNEL N   prints the lines that `vchan decode` should print of it, as qrexec_next reads it
+ *   streams lines CHANNEL     prints these lines of the bytes of standard input
  */
 #include "by_hand.h"
 #include <stdio.h>
@@ -423,20 +424,18 @@ static void print_end(const struct qrexec_reader *r, size_t left)
 		printf("fault %s %llu %u %u\n", faults[r->fault], (unsigned long long)r->at, r->kind, r->len);
 }
 
-static void print(bool lines, int channel, long number)
+static void print_pieces(const uint8_t *stream, size_t len)
 {
-	static uint8_t stream[MOST];
+	for (size_t i = 0; i < len; i++)
+		printf("%02x%s", stream[i], any(20) && i + 1 < len ? "" : "\n");
+}
+
+static void print_lines(const uint8_t *stream, size_t len, int channel)
+{
 	struct qrexec_reader reader;
 	struct qrexec_found found;
-	size_t len = 0, at = 0;
+	size_t at = 0;
 
-	seed += 0x9e3779b97f4a7c15u * (uint64_t)number;
-	len = some_stream(stream, channel);
-	if (!lines) {
-		for (size_t i = 0; i < len; i++)
-			printf("%02x%s", stream[i], any(20) && i + 1 < len ? "" : "\n");
-		return;
-	}
 	CHECK(qrexec_reader_init(&reader, channel));
 	while (qrexec_next(&reader, stream + at, len - at, &found) == QREXEC_FOUND)
 		print_message(stream + at, &found), at += 8 + found.len;
@@ -445,8 +444,17 @@ static void print(bool lines, int channel, long number)
 
 int main(int argc, char **argv)
 {
-	if (argc == 4) {
-		print(!strcmp(argv[1], "lines"), !strcmp(argv[2], "data"), atol(argv[3]));
+	if (argc > 2 && (!strcmp(argv[1], "stream") || !strcmp(argv[1], "lines"))) {
+		static uint8_t stream[16u << 20];
+		int channel = !strcmp(argv[2], "data");
+		size_t len;
+
+		seed += argc == 4 ? 0x9e3779b97f4a7c15u * (uint64_t)atol(argv[3]) : 0;
+		len = argc == 4 ? some_stream(stream, channel) : fread(stream, 1, sizeof stream, stdin);
+		if (!strcmp(argv[1], "stream"))
+			print_pieces(stream, len);
+		else
+			print_lines(stream, len, channel);
 		return 0;
 	}
 	if (argc == 3) {
