@@ -507,7 +507,7 @@ impl<E: Events> io::Write for Stream<'_, '_, E> {
     }
 }
 
-/// Runs the Rust code in docs/LIBRARY.md as a test.
+/// Compiles the Rust code in docs/LIBRARY.md as a test.
 #[cfg(all(doctest, in_repository))]
 #[doc = include_str!("../../docs/LIBRARY.md")]
 struct LibraryDocument;
