@@ -39,16 +39,16 @@ ends_over a end none h = by_over (is_over a)
     by_over true = by_code a.code
     by_over false = still
 
-pub chunk_over : (a : AnsweringState Builtin) → (over_if a).chunk ≡ a.chunk
-chunk_over a = by_over (is_over a)
+pub over_keeps : (a : AnsweringState Builtin) → ((over_if a).chunk ≡ a.chunk) × ((over_if a).own ≡ a.own)
+over_keeps a = by_over (is_over a)
   where
-    by_code : (code : Option ℤ) → (done_if code a).chunk ≡ a.chunk
-    by_code None = refl
-    by_code (Some code) = refl
+    by_code : (code : Option ℤ) → ((done_if code a).chunk ≡ a.chunk) × ((done_if code a).own ≡ a.own)
+    by_code None = (refl, refl)
+    by_code (Some code) = (refl, refl)
 
-    by_over : (b : Bool) → (if b then done_if a.code a else a).chunk ≡ a.chunk
+    by_over : (b : Bool) → ((if b then done_if a.code a else a).chunk ≡ a.chunk) × ((if b then done_if a.code a else a).own ≡ a.own)
     by_over true = by_code a.code
-    by_over false = refl
+    by_over false = (refl, refl)
 
 -- a side that nothing has decided yet, and whose bytes are borrowed to go into its end
 pub record IsLent (old lent : ServingState Builtin) (end : SeatedEnd) (piece : List ℕ) : Type 0 where
@@ -105,7 +105,7 @@ went_works old lent new end end' piece count h new_is view_is =
     let going = going_on old end h.undecided h.work in
     let now : EndsBy None (view end') = (ap (λ v. v.state) view_is ∙ going.0, ap (λ v. v.ended) view_is ∙ going.1) in
     record {
-      chunk_is = ap (λ s. s.answering.chunk) new_is ∙ chunk_over a ∙ same.chunk ∙ h.work.chunk_is;
+      chunk_is = ap (λ s. s.answering.chunk) new_is ∙ (over_keeps a).0 ∙ same.chunk ∙ h.work.chunk_is;
       idle = ap (λ v. v.idle) view_is ∙ h.work.idle;
       ends = subst (λ o. EndsBy o (view end')) (sym (ap (λ s. s.answering.outcome) new_is)) (ends_over a (view end') (same.outcome ∙ h.undecided) now);
     }

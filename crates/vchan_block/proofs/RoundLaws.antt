@@ -4,6 +4,7 @@ use Rattle.std.proofs.Math.Seq.{take-add}
 use Rattle.vchan_protocol.specs.declared.call.Call.TheVariants.{Write}
 use Rattle.vchan_protocol.specs.Table.Calls.{Trace}
 use Rattle.vchan_protocol.specs.History.Core.{standing_of}
+use Rattle.vchan_protocol.specs.OneEnd.OneCall.{MadeOneCall}
 use Rattle.end_view.specs.EndView.{EndView}
 use Rattle.vchan_rule.specs.Seated.{SeatedEnd, view}
 use Rattle.vchan_rule.specs.Called.{most_asked}
@@ -13,9 +14,9 @@ use Rattle.vchan_block.specs.declared.writing.BlockWrite.TheVariants as wrote
 use Rattle.vchan_block.specs.Rounds.{IsWriteRound}
 
 pub round_on : (bytes left : List ℕ) (moved : ℕ) (answer : WriteAnswer) (old new : SeatedEnd) → left ≡ drop moved bytes → view new ≡ wrote_to (view old) answer left
-    → Trace (standing_of old.side) (Write (most_asked left)) new.side.trail (write_told answer) → IsWriteRound (drop moved bytes) answer old new
-round_on bytes left moved answer old new is view_is trail =
-    subst (λ (xs : List ℕ). IsWriteRound xs answer old new) is (record { view_is = view_is; trail = trail })
+    → MadeOneCall old.side (Write (most_asked left)) new.side (write_told answer) → Trace (standing_of old.side) (Write (most_asked left)) new.side.trail (write_told answer) → IsWriteRound (drop moved bytes) answer old new
+round_on bytes left moved answer old new is view_is once trail =
+    subst (λ (xs : List ℕ). IsWriteRound xs answer old new) is (record { view_is = view_is; once = once; trail = trail })
 
 -- the bytes that are sent then
 pub sent_on : (e first now : EndView) (bytes left : List ℕ) (moved count : ℕ) → left ≡ drop moved bytes → e ≡ record first { sent = first.sent ++ take moved bytes } → now ≡ record e { sent = e.sent ++ take count left }

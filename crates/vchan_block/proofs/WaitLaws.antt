@@ -1,28 +1,28 @@
 -- What an end has noted after a round that was left unfinished, and what it may rely on by that.
-use Rattle.std.proofs.Common.{◌≡◌, ◌≢◌, ℕ, suc, zero, ◌+◌, ◌<◌, ◌==◌, min, nat_lt, Bool, true, false, cond, Some, None, List, [], ◌∷◌, refl, sym, subst, ap, arith}
+use Rattle.std.proofs.Common.{◌≡◌, ◌≢◌, ℕ, suc, zero, ◌+◌, ◌<◌, ◌==◌, min, nat_lt, not, Bool, true, false, cond, Some, None, List, [], ◌∷◌, refl, sym, subst, ◌∙◌, arith}
 use Rattle.std.proofs.lemmas.Bool.{eqb-true, eqb-false, ltb-true, ltb-false}
 use Rattle.ring_words.specs.declared.page.Role.{Role}
 use Rattle.ring_words.specs.declared.page.Role.TheVariants.{Server, Client}
 use Rattle.vchan_protocol.specs.declared.op.Op.{Op}
-use Rattle.vchan_protocol.specs.declared.op.Op.TheVariants.{Load}
+use Rattle.vchan_protocol.specs.declared.op.Op.TheVariants.{Load, Swap}
 use Rattle.vchan_protocol.specs.declared.op.PastEvent.{PastEvent}
 use Rattle.vchan_protocol.specs.declared.call.Answer.{Answer}
-use Rattle.vchan_protocol.specs.declared.call.Answer.TheVariants.{Wrote, Full, Sent, NoRoom, Got, Empty, Short, PeerClosed}
+use Rattle.vchan_protocol.specs.declared.call.Answer.TheVariants.{Wrote, Full, Sent, NoRoom, Got, Empty, Short, PeerClosed, Event}
 use Rattle.vchan_protocol.specs.declared.call.Bit.{Bit}
 use Rattle.vchan_protocol.specs.declared.call.Bit.TheVariants.{Written, Consumed}
 use Rattle.vchan_protocol.specs.declared.call.Call.{Call}
-use Rattle.vchan_protocol.specs.declared.call.Call.TheVariants.{Write, Send, Read, Recv}
+use Rattle.vchan_protocol.specs.declared.call.Call.TheVariants.{Write, Send, Read, Recv, TakeEvent}
 use Rattle.vchan_protocol.specs.declared.side.Side.{Side}
 use Rattle.vchan_protocol.specs.declared.side.Notes.{Notes}
 use Rattle.vchan_protocol.specs.Table.Plan.{Plan, does, answers, Leads}
 use Rattle.vchan_protocol.specs.Table.Ends.{Standing, written_ring, read_ring, prod_word, cons_word, own_pending, peer_live, free_at, ready_at, low8, low32}
 use Rattle.vchan_protocol.specs.Table.Calls.{Trace, put_bytes, take_bytes, put, take, notify, ask, look_read, look_write, write, write_open, write_looked, read, read_live, read_looked, send, send_open, send_looked, recv, recv_live, recv_looked}
-use Rattle.vchan_protocol.specs.History.Core.{Core, side_of, standing_of, noted, noted_load, index_seen, asks, begins, made}
+use Rattle.vchan_protocol.specs.History.Core.{Core, side_of, standing_of, nothing_noted, noted, noted_load, index_seen, asks, begins, made}
 use Rattle.vchan_protocol.specs.History.Peer.{held, peer}
 use Rattle.vchan_protocol.specs.OneEnd.OneCall.{side_along, side_called}
 use Rattle.vchan_protocol.specs.Signals.SignalLaw.{NoLostSignal, asked_of}
 use Rattle.vchan_protocol.proofs.Signals.SignalLaws as signals
-use Rattle.vchan_block.specs.Waiting.{bit_of, IsUnfinished, IsAnsweredBy, StillWaits}
+use Rattle.vchan_block.specs.Waiting.{bit_of, IsUnfinished, IsAnsweredBy, TriesInVain, TriesNone, TriesOnce, StillWaits}
 
 -- ---- the notes of an end along its events
 
@@ -224,11 +224,36 @@ round_notes was call payload events answer trace unfinished =
     noted_by (Recv n) answer trace unfinished = Leaves_Leads (Fits (standing_of was) (Recv n)) was.role was.notes _ events answer (recv_leaves (standing_of was) n was.notes) trace unfinished
     noted_by _ answer trace unfinished = absurd unfinished
 
+-- ---- tries
+
+-- a try that finds no event leaves what its end has noted
+abbrev Stays : Notes → Notes → Answer → Type 0
+Stays was n answer = answer ≡ Event false → n ≡ was
+
+stays_as : (was : Notes) (b : Bool) → Stays was (cond b was nothing_noted) (Event (not b))
+stays_as was true = λ is. refl
+stays_as was false = λ is. cc
+
+try_stays : (e : Standing) (was : Notes) (value : ℕ) → Leaves (Stays was) e.role (noted (Swap (own_pending e.role) 0) e.role value was) (answers (Event (not (value == 0))))
+unfolding Leaves
+try_stays e was value = stays_as was (value == 0)
+
+try_keeps : (s : Side) (payload : List ℕ) (events : List PastEvent) → Trace (standing_of s) TakeEvent events (Event false) → (side_called s TakeEvent payload events (Event false)).notes ≡ s.notes
+try_keeps s payload events trace =
+    let whole = leaves_does (Stays s.notes) (standing_of s) s.notes (Swap (own_pending s.role) 0) (λ (old : ℕ). answers (Event (not (old == 0)))) (try_stays (standing_of s) s.notes) in
+    notes_along_lem (begins s TakeEvent payload) events ∙ Leaves_Leads (Stays s.notes) s.role s.notes _ events (Event false) whole trace refl
+
+tries_keep : (s later : Side) → TriesInVain s later → later.notes ≡ s.notes
+tries_keep s later TriesNone = refl
+tries_keep s later (TriesOnce payload events trace rest) = tries_keep (side_called s TakeEvent payload events (Event false)) later rest ∙ try_keeps s payload events trace
+
+-- ---- the law of a wait
+
 pub misses_nothing : (core : Core) (was : Side) (call : Call) (payload : List ℕ) (events : List PastEvent) (answer : Answer) → NoLostSignal core →
-    Trace (standing_of was) call events answer → side_of core was.role ≡ side_called was call payload events answer → IsUnfinished call answer →
+    Trace (standing_of was) call events answer → TriesInVain (side_called was call payload events answer) (side_of core was.role) → IsUnfinished call answer →
     held core (own_pending was.role) ≡ 0 → (side_of core (peer was.role)).call ≡ None → StillWaits core was.role (standing_of was) call answer
-misses_nothing core was call payload events answer kept trace is unfinished unwoken idle =
-    let noted = subst (λ (m : Notes). HasNoted (standing_of was) call m answer) (ap (λ (s : Side). s.notes) (sym is)) (round_notes was call payload events answer trace unfinished) in
+misses_nothing core was call payload events answer kept trace tries unfinished unwoken idle =
+    let noted = subst (λ (m : Notes). HasNoted (standing_of was) call m answer) (sym (tries_keep _ _ tries)) (round_notes was call payload events answer trace unfinished) in
     let rest = signals.misses_nothing core was.role (bit_of call) kept (record { asked = noted.looked.since; unwoken = unwoken; peer_idle = idle }) in
     record {
       bit_stands = rest.bit_stands;

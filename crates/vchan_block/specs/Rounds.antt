@@ -1,4 +1,5 @@
--- Calls that wait, as lists of rounds: each is a whole call that doesn't wait, and between two of them the end takes events.
+-- Calls that wait, as lists of rounds: each is a whole call that doesn't wait, and between two of them the end takes one event.
+-- Each round and each try is the one call that the end made meanwhile. So the calls that the end has made tell how it stood between them.
 -- Source: libxenvchan's io.c for the blocking mode of libxenvchan_write, read, send and recv; that a call is a list of rounds, and that only a whole round moves bytes, is this project's own.
 use Rattle.std.specs.Prelude.{◌≡◌, ℕ, ◌+◌, ◌<◌, Bool, true, false, List, ◌++◌, length, take, drop}
 use Rattle.vchan_protocol.specs.declared.call.Answer.{Answer}
@@ -8,6 +9,7 @@ use Rattle.vchan_protocol.specs.declared.call.Call.TheVariants.{TakeEvent, Write
 use Rattle.vchan_protocol.specs.Table.Ends.{Standing, write_size, read_size}
 use Rattle.vchan_protocol.specs.Table.Calls.{Trace}
 use Rattle.vchan_protocol.specs.History.Core.{standing_of}
+use Rattle.vchan_protocol.specs.OneEnd.OneCall.{MadeOneCall}
 use Rattle.end_view.specs.EndView.{EndView}
 use Rattle.vchan_rule.specs.Seated.{SeatedEnd, view}
 use Rattle.vchan_rule.specs.Called.{most_asked}
@@ -39,6 +41,7 @@ EndsIn e call answer = (begun : Standing) × Trace begun call e.side.trail answe
 -- one try to take an event: whether it took one
 pub record IsTry (was : Bool) (old new : SeatedEnd) : Type 0 where
   pub view_is : view new ≡ view old
+  pub once : MadeOneCall old.side TakeEvent new.side (Event was)
   pub trail : Trace (standing_of old.side) TakeEvent new.side.trail (Event was)
 
 -- tries until an event was taken
@@ -51,6 +54,7 @@ pub data Waits : SeatedEnd → SeatedEnd → Type 0 where
 -- one round on these bytes
 pub record IsWriteRound (bytes : List ℕ) (answer : WriteAnswer) (old new : SeatedEnd) : Type 0 where
   pub view_is : view new ≡ stream.wrote_to (view old) answer bytes
+  pub once : MadeOneCall old.side (Write (most_asked bytes)) new.side (stream.write_told answer)
   pub trail : Trace (standing_of old.side) (Write (most_asked bytes)) new.side.trail (stream.write_told answer)
 
 -- after this many bytes: a round moved `count` more, and all are moved; a round found the peer closed; or it waits and goes on
@@ -75,6 +79,7 @@ EndsInWrite e (wrote.PeerClosed before) bytes = EndsIn e (Write (most_asked (dro
 -- one round that asks for at most this many bytes, and leaves these in the buffer
 pub record IsReadRound (most : ℕ) (answer : ReadAnswer) (buffer : List ℕ) (old new : SeatedEnd) : Type 0 where
   pub view_is : view new ≡ stream.read_from (view old) answer buffer
+  pub once : MadeOneCall old.side (Read most) new.side (stream.read_told answer)
   pub trail : Trace (standing_of old.side) (Read most) new.side.trail (stream.read_told answer)
 
 -- the answer of the last round
@@ -92,6 +97,7 @@ pub data Reads (most : ℕ) (buffer : List ℕ) : SeatedEnd → SeatedEnd → Bl
 -- one round on this packet
 pub record IsSendRound (bytes : List ℕ) (answer : SendAnswer) (old new : SeatedEnd) : Type 0 where
   pub view_is : view new ≡ packet.sent_to (view old) answer bytes
+  pub once : MadeOneCall old.side (Send (most_asked bytes)) new.side (packet.send_told (most_asked bytes) answer)
   pub trail : Trace (standing_of old.side) (Send (most_asked bytes)) new.side.trail (packet.send_told (most_asked bytes) answer)
 
 -- rounds that found no room, and the last one, which gave this answer
@@ -126,6 +132,7 @@ IsTooLargeToSend e bytes len size = (len ≡ length bytes) × (size ≡ write_si
 -- one round that asks for this many bytes, and leaves these in the buffer
 pub record IsRecvRound (most : ℕ) (answer : RecvAnswer) (buffer : List ℕ) (old new : SeatedEnd) : Type 0 where
   pub view_is : view new ≡ packet.received_from (view old) answer buffer
+  pub once : MadeOneCall old.side (Recv most) new.side (packet.recv_told most answer)
   pub trail : Trace (standing_of old.side) (Recv most) new.side.trail (packet.recv_told most answer)
 
 -- rounds that found too few bytes, and the last one, which gave this answer

@@ -12,6 +12,9 @@ use vchan_notify::take_event;
 use vchan_rule::End;
 
 /// Tries to take an event until it took one, as `libxenvchan_wait` waits for one.
+///
+/// It makes one call a try, and takes one event. The tries before that took nothing, and so it wasn't
+/// signalled when it slept: until then [`round_misses_nothing`](crate::laws::round_misses_nothing) holds.
 pub fn wait<R: Wait + Clock>(rt: &R, end: &mut End<'_>)
     requires { IsOpen end.old }
     ensures same { IsSameEnd end.old end.new }

@@ -1,3 +1,4 @@
+//! How many bytes an end of a page in memory has moved since the page was opened.
 ghost use Rattle.std.specs.Prelude.{◌≡◌, ◌<◌, ◌≤◌, ◌^◌, ℕ, ◌+◌, ◌∷◌, ◌++◌, [], List, ◌↔◌, IsSome};
 
 /// How many bytes an end has sent and got. Each count stays at its greatest number once it gets there.

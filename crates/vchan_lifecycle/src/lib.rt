@@ -16,7 +16,7 @@ ghost use Rattle.vchan_protocol.specs.Table.Calls.{Trace};
 ghost use Rattle.vchan_protocol.specs.Answering.Causes.{DrainCause, ConnectCause};
 ghost use Rattle.vchan_protocol.specs.History.Core.{standing_of, bytes_loaded};
 ghost use Rattle.vchan_protocol.specs.Answering.Loads.{loads_of};
-ghost use Rattle.vchan_protocol.specs.OneEnd.OneCall.{bytes_in};
+ghost use Rattle.vchan_protocol.specs.OneEnd.OneCall.{MadeOneCall, bytes_in};
 ghost use Rattle.vchan_protocol.specs.OneEnd.EndingLaw.{has_noticed};
 ghost use Rattle.end_view.specs.AfterCall.{DrainSees};
 ghost use Rattle.vchan_rule.specs.Seated.{view, last_view, IsOpen};
@@ -91,6 +91,7 @@ pub fn connect(end: &mut End<'_>) -> Result<(), BadOrders>
     requires client { (view end.old).role ≡ Client }
     ensures same { IsSameEnd end.old end.new }
     ensures view { view end.new ≡ connected_to (view end.old) (is_ok result) }
+    ensures once { MadeOneCall end.old.side Connect end.new.side (connect_told result) }
     ensures trail { Trace (standing_of end.old.side) Connect end.new.side.trail (connect_told result) }
     ensures cause { (other : Result (Unit {0}) Refused) → (result ≡ other) ↔ ConnectCause (standing_of end.old.side) (loads_of (standing_of end.old.side) end.new.side.trail) (connect_told other) }
 {
@@ -103,6 +104,7 @@ pub fn close(end: &mut End<'_>)
     requires going { (view end.old).state ≢ Shut }
     ensures same { IsSameEnd end.old end.new }
     ensures view { view end.new ≡ shut (view end.old) }
+    ensures once { MadeOneCall end.old.side Close end.new.side Done }
     ensures trail { Trace (standing_of end.old.side) Close end.new.side.trail Done }
     ensures events { ops end.new.side.trail ≡ close_ops end.old.side.role }
 {
@@ -115,6 +117,7 @@ pub fn retire(mut end: End<'_>) -> Retired
     requires idle { (view end).idle ≡ true }
     ensures view { last_view result ≡ retired_view (view end.entry) }
     ensures honest { (last_view result).turned ≡ false }
+    ensures once { MadeOneCall end.entry.side Retire result.side Done }
     ensures trail { Trace (standing_of end.entry.side) Retire result.side.trail Done }
     ensures events { ops result.side.trail ≡ retire_ops end.entry.side.role end.entry.side.state }
 {
@@ -140,6 +143,7 @@ pub fn drain(end: &mut End<'_>, buf: &mut [u8]) -> DrainAnswer
     ensures kept { bytes_in (drain_told result) ≡ 0 → buf.new ≡ buf.old }
     ensures more { (count : ℕ) → result ≡ DrainAnswer.More count → 1 ≤ count }
     ensures few { (count : ℕ) → result ≡ DrainAnswer.More count → count ≤ length buf.old }
+    ensures once { MadeOneCall end.old.side (Drain (most_asked buf.old)) end.new.side (drain_told result) }
     ensures trail { Trace (standing_of end.old.side) (Drain (most_asked buf.old)) end.new.side.trail (drain_told result) }
     ensures asks { has_asked (ops end.new.side.trail) ≡ found_none_first (standing_of end.old.side) end.new.side.trail }
     ensures cause { (other : DrainAnswer) → (result ≡ other) ↔ DrainCause (standing_of end.old.side) (most_asked buf.old) (loads_of (standing_of end.old.side) end.new.side.trail) (drain_told other) }

@@ -13,6 +13,7 @@ ghost use Rattle.vchan_protocol.specs.Table.Calls.{Trace};
 ghost use Rattle.vchan_protocol.specs.Answering.Causes.{Cause};
 ghost use Rattle.vchan_protocol.specs.History.Core.{standing_of};
 ghost use Rattle.vchan_protocol.specs.Answering.Loads.{loads_of};
+ghost use Rattle.vchan_protocol.specs.OneEnd.OneCall.{MadeOneCall};
 ghost use Rattle.vchan_rule.specs.Seated.{view, IsOpen};
 ghost use Rattle.vchan_rule.specs.Ends.{IsSameEnd};
 ghost use Rattle.vchan_notify.specs.Notify.{AnswersReady, AnswersSpace, AnswersEvent, AnswersGone, asked_gone, HasFoundGone};
@@ -66,6 +67,7 @@ pub fn data_ready(end: &mut End<'_>) -> u32
     ensures same { IsSameEnd end.old end.new }
     ensures open { IsOpen end.new }
     ensures view { view end.new ≡ view end.old }
+    ensures once { MadeOneCall end.old.side DataReady end.new.side (Ready result) }
     ensures trail { Trace (standing_of end.old.side) DataReady end.new.side.trail (Ready result) }
     ensures cause { Cause (standing_of end.old.side) DataReady (loads_of (standing_of end.old.side) end.new.side.trail) (Ready result) }
 {
@@ -78,6 +80,7 @@ pub fn buffer_space(end: &mut End<'_>) -> u32
     ensures same { IsSameEnd end.old end.new }
     ensures open { IsOpen end.new }
     ensures view { view end.new ≡ view end.old }
+    ensures once { MadeOneCall end.old.side BufferSpace end.new.side (Space result) }
     ensures trail { Trace (standing_of end.old.side) BufferSpace end.new.side.trail (Space result) }
     ensures cause { Cause (standing_of end.old.side) BufferSpace (loads_of (standing_of end.old.side) end.new.side.trail) (Space result) }
 {
@@ -90,6 +93,7 @@ pub fn take_event(end: &mut End<'_>) -> bool
     ensures same { IsSameEnd end.old end.new }
     ensures open { IsOpen end.new }
     ensures view { view end.new ≡ view end.old }
+    ensures once { MadeOneCall end.old.side TakeEvent end.new.side (Event result) }
     ensures trail { Trace (standing_of end.old.side) TakeEvent end.new.side.trail (Event result) }
     ensures cause { Cause (standing_of end.old.side) TakeEvent (loads_of (standing_of end.old.side) end.new.side.trail) (Event result) }
 {
@@ -102,6 +106,7 @@ pub fn peer_gone(end: &mut End<'_>) -> bool
     ensures same { IsSameEnd end.old end.new }
     ensures open { IsOpen end.new }
     ensures view { view end.new ≡ asked_gone (view end.old) result }
+    ensures once { MadeOneCall end.old.side PeerGone end.new.side (Gone result) }
     ensures trail { Trace (standing_of end.old.side) PeerGone end.new.side.trail (Gone result) }
     ensures cause { Cause (standing_of end.old.side) PeerGone (loads_of (standing_of end.old.side) end.new.side.trail) (Gone result) }
     ensures noted { IsTrue result ↔ HasFoundGone end.new.side }

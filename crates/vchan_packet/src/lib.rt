@@ -12,7 +12,7 @@ ghost use Rattle.vchan_protocol.specs.Table.Calls.{Trace};
 ghost use Rattle.vchan_protocol.specs.Answering.Causes.{SendCause, RecvCause};
 ghost use Rattle.vchan_protocol.specs.History.Core.{standing_of, bytes_loaded};
 ghost use Rattle.vchan_protocol.specs.Answering.Loads.{loads_of};
-ghost use Rattle.vchan_protocol.specs.OneEnd.OneCall.{bytes_in};
+ghost use Rattle.vchan_protocol.specs.OneEnd.OneCall.{MadeOneCall, bytes_in};
 ghost use Rattle.vchan_rule.specs.Seated.{view, IsOpen};
 ghost use Rattle.vchan_rule.specs.Ends.{IsSameEnd};
 ghost use Rattle.vchan_rule.specs.Called.{most_asked};
@@ -84,6 +84,7 @@ pub fn send(end: &mut End<'_>, payload: &[u8]) -> SendAnswer
     ensures same { IsSameEnd end.old end.new }
     ensures open { IsOpen end.new }
     ensures view { view end.new ≡ sent_to (view end.old) result payload.now }
+    ensures once { MadeOneCall end.old.side (Send (most_asked payload.now)) end.new.side (send_told (most_asked payload.now) result) }
     ensures trail { Trace (standing_of end.old.side) (Send (most_asked payload.now)) end.new.side.trail (send_told (most_asked payload.now) result) }
     ensures cause { (other : SendAnswer) → (result ≡ other) ↔ SendCause (standing_of end.old.side) (most_asked payload.now) (loads_of (standing_of end.old.side) end.new.side.trail) (send_told (most_asked payload.now) other) }
 {
@@ -103,6 +104,7 @@ pub fn recv(end: &mut End<'_>, buf: &mut [u8]) -> RecvAnswer
     ensures long { length buf.new ≡ length buf.old }
     ensures fills { buf.new ≡ filled buf.old (bytes_loaded end.new.side.trail) }
     ensures kept { bytes_in (recv_told (most_asked buf.old) result) ≡ 0 → buf.new ≡ buf.old }
+    ensures once { MadeOneCall end.old.side (Recv (most_asked buf.old)) end.new.side (recv_told (most_asked buf.old) result) }
     ensures trail { Trace (standing_of end.old.side) (Recv (most_asked buf.old)) end.new.side.trail (recv_told (most_asked buf.old) result) }
     ensures cause { (other : RecvAnswer) → (result ≡ other) ↔ RecvCause (standing_of end.old.side) (most_asked buf.old) (loads_of (standing_of end.old.side) end.new.side.trail) (recv_told (most_asked buf.old) other) }
 {

@@ -16,4 +16,4 @@ mod side;
 
 pub use call::{Answer, Bit, Call, EndState};
 pub use op::{Op, PastEvent};
-pub use side::{Asked, Begun, EndedBy, Notes, Side};
+pub use side::{Asked, Begun, EndedBy, Notes, PastCall, Side};

@@ -1,4 +1,4 @@
-use crate::call::{Call, EndState};
+use crate::call::{Answer, Call, EndState};
 use crate::op::PastEvent;
 use ring_words::{Orders, Role};
 use std::collections::LinkedList;
@@ -25,10 +25,20 @@ pub struct Begun {
     pub cons: u32,
 }
 
+/// A call that an end has made and that was answered: how it began, its events, and its answer.
+pub struct PastCall {
+    /// The call, with the state and the counts that the end had when it began.
+    pub begun: Begun,
+    /// Its events.
+    pub trail: LinkedList<PastEvent>,
+    /// Its answer.
+    pub answer: Answer,
+}
+
 /// What an end remembers of one of the bits with which it asks for signals.
 #[derive(Clone, Copy, Debug, PartialEq, Eq)]
 pub struct Asked {
-    /// The end has asked since it took an event last.
+    /// The end has asked since it took an event last; a try that found none counts for nothing.
     pub since: bool,
     /// The peer's index that the end loaded last since it asked.
     pub seen: Option<u32>,
@@ -66,6 +76,8 @@ pub struct Side {
     pub trail: LinkedList<PastEvent>,
     /// The bytes that the caller gave to that call.
     pub payload: LinkedList<u8>,
+    /// All calls that it has made and that were answered, the last one at the end.
+    pub calls: LinkedList<PastCall>,
     /// All bytes that the end has shown to its peer by an index.
     pub sent: LinkedList<u8>,
     /// All bytes that the end has taken and whose places it has released by an index.

@@ -10,13 +10,12 @@ use Rattle.vchan_protocol.specs.declared.side.Side.{Side}
 use Rattle.vchan_protocol.specs.Table.Plan.{answers, after, past, GoesOn}
 use Rattle.vchan_protocol.specs.Table.Ends.{Standing, standing_after, write_size, read_size}
 use Rattle.vchan_protocol.specs.Table.Apply.{filled}
-use Rattle.vchan_protocol.specs.Table.Calls.{plan_of, payload_of, stored_most, loaded_most, most_events}
+use Rattle.vchan_protocol.specs.Table.Calls.{payload_of, stored_most, loaded_most, most_events}
 use Rattle.vchan_protocol.specs.History.Core.{begins, standing_of, plan_left, op_next, made, side_after, answer_in, bytes_loaded}
 use Rattle.vchan_protocol.specs.OneEnd.EndingLaw.{notices, has_noticed}
 use Rattle.vchan_protocol.specs.OneEnd.OneCall.{landed, side_along, OnWay, IsOver, IsThen}
 use Rattle.vchan_protocol.proofs.OneEnd.OneCallBytes.{answers_tell}
-use Rattle.vchan_protocol.proofs.OneEnd.OneCallWay.{way_goes_on, landed_length, over_tells}
-use Rattle.vchan_protocol.proofs.Table.Bounds.{ends_call, length_Leads}
+use Rattle.vchan_protocol.proofs.OneEnd.OneCallWay.{way_goes_on, landed_length, over_tells, over_once}
 use Rattle.vchan_protocol.proofs.Table.Counted.{counts_within}
 use Rattle.vchan_protocol.proofs.Honest.LifeTrails.{or_assoc}
 use Rattle.vchan_protocol.proofs.History.EventLaws.{settled_trail}
@@ -114,10 +113,6 @@ called_view was e call payload start buffer answer honest may page idle over =
 pub called_saw : (was e : SeatedEnd) (call : Call) (payload start buffer : List ℕ) (answer : Answer) → was.side.turned ≡ false → MayCall (view was) call → IsOver was.side call payload start e.side buffer answer → SeesAsTold call answer was.side.saw e.side.saw
 called_saw was e call payload start buffer answer honest may over = (view_after was.page was.side call payload start e.side buffer answer honest may.1 over).saw
 
--- a call that is over made no more events than it may
-pub over_few : (was : Side) (call : Call) (given start : List ℕ) (s : Side) (buffer : List ℕ) (answer : Answer) → IsOver was call given start s buffer answer → length s.trail ≤ most_events (standing_of was) call
-over_few was call given start s buffer answer over = length_Leads (plan_of (standing_of was) call) s.trail (answers answer) (most_events (standing_of was) call) (ends_call (standing_of was) call) over.trace
-
 -- no call may store or load more than the ring holds
 stored_ring : (e : Standing) (call : Call) → stored_most e call ≤ write_size e
 stored_ring e (Write n) = omega arith
@@ -154,6 +149,7 @@ has_called was e call payload start buffer answer honest may same idle none long
       same = same;
       idle = (idle, none);
       over = over;
+      once = over_once was.side call given start e.side buffer answer over;
       tells = over_tells was.side call given start e.side buffer answer over;
       view = called_view was e call given start buffer answer honest may same.0 idle over;
       saw = called_saw was e call given start buffer answer honest may over;
@@ -163,5 +159,4 @@ has_called was e call payload start buffer answer honest may same idle none long
       loaded = omega (arith, within.1, loaded_ring (standing_of was.side) call);
       kept = λ none. over.fills ∙ none_filled start (bytes_loaded e.side.trail) (moved.loaded ∙ none);
       long = long;
-      bound = over_few was.side call given start e.side buffer answer over;
     }

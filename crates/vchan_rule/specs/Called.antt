@@ -3,9 +3,9 @@ use Rattle.std.specs.Prelude.{◌≡◌, ◌≤◌, ◌||◌, ℕ, None, List, l
 use Rattle.vchan_protocol.specs.declared.call.Answer.{Answer}
 use Rattle.vchan_protocol.specs.declared.call.Call.{Call}
 use Rattle.vchan_protocol.specs.Table.Ends.{write_size, read_size}
-use Rattle.vchan_protocol.specs.Table.Calls.{payload_of, loaded_most, most_events}
+use Rattle.vchan_protocol.specs.Table.Calls.{payload_of, loaded_most}
 use Rattle.vchan_protocol.specs.History.Core.{standing_of, count_stored, bytes_loaded}
-use Rattle.vchan_protocol.specs.OneEnd.OneCall.{bytes_out, bytes_in, IsOver, OverTells}
+use Rattle.vchan_protocol.specs.OneEnd.OneCall.{bytes_out, bytes_in, IsOver, MadeOneCall, OverTells}
 use Rattle.vchan_protocol.specs.OneEnd.EndingLaw.{has_noticed}
 use Rattle.vchan_core.specs.OneMachine.Phases.{IsIdle}
 use Rattle.end_view.specs.AfterCall.{MayCall, answered_view, SeesAsTold}
@@ -18,7 +18,7 @@ pub record MayMake (e : SeatedEnd) (call : Call) (payload buffer : List ℕ) : T
   pub pays : payload_of call ≤ length payload
   pub room : loaded_most (standing_of e.side) call ≤ length buffer
 
--- A whole call of the end `was`, with these bytes and this buffer, gave this answer, and left this end and this buffer. Its events are the end's trail,
+-- A whole call of the end `was`, with these bytes and this buffer, gave this answer, and left this end and this buffer. The end made no other call. Its events are the end's trail,
 -- and the lists grow as its answer tells. It stores and loads at most as many ring bytes as the ring holds, leaves the
 -- buffer as it was if it got none, and the end has seen its peer's end if it had before,
 -- or if an event of this call showed it.
@@ -26,6 +26,7 @@ pub record HasCalled (was : SeatedEnd) (call : Call) (payload start : List ℕ) 
   pub same : IsSameEnd was e
   pub idle : IsIdle e.machine × (e.begun ≡ None)
   pub over : IsOver was.side call (take (payload_of call) payload) start e.side buffer answer
+  pub once : MadeOneCall was.side call e.side answer
   pub tells : OverTells was.side (take (payload_of call) payload) e.side buffer answer
   pub view : view e ≡ answered_view (view was) call (take (payload_of call) payload) buffer answer e.side.saw
   pub saw : SeesAsTold call answer was.side.saw e.side.saw
@@ -35,7 +36,6 @@ pub record HasCalled (was : SeatedEnd) (call : Call) (payload start : List ℕ) 
   pub loaded : length (bytes_loaded e.side.trail) ≤ read_size (standing_of was.side)
   pub kept : bytes_in answer ≡ 0 → buffer ≡ start
   pub long : length buffer ≡ length start
-  pub bound : length e.side.trail ≤ most_events (standing_of was.side) call
 
 -- what one call asks for at most: as many bytes as are given, within 32 bits
 abbrev pub most_asked : List ℕ → ℕ

@@ -46,13 +46,13 @@ pub(crate) const SIGNALS: u8 = 6;
 
 pub(crate) const OTHERWISE: u8 = 7;
 
-/// The stretch in which a drain that found nothing asks for a signal.
+/// The part of a drain whose first look found nothing: it asks for a signal, and looks at the index again.
 const ASKS: u8 = 8;
 
-/// The stretch in which a drain that found nothing looks whether its peer is there.
+/// The part of a drain after that: it looks whether its peer is shut or gone.
 const LOOKS: u8 = 9;
 
-/// The stretch in which an end that retires tells that it is gone.
+/// The last part of a retire: it sets the own gone word and signals.
 const GOES: u8 = 10;
 
 /// An end's seat at the table of its page: all of the end except the words and its machine.

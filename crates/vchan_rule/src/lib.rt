@@ -5,7 +5,6 @@
 //! The crates of calls, which two threads make on the two ends of one page, rest on it. What an end does
 //! is the machine of `vchan_core`, after Xen's libxenvchan; that an end may be turned over to a hostile
 //! user is this project's own.
-//! hostile user is this project's own.
 #![tactic(auto)]
 
 mod end;

@@ -12,7 +12,7 @@ ghost use Rattle.vchan_protocol.specs.Table.Calls.{Trace};
 ghost use Rattle.vchan_protocol.specs.Answering.Causes.{WriteCause, ReadCause};
 ghost use Rattle.vchan_protocol.specs.History.Core.{standing_of, bytes_loaded};
 ghost use Rattle.vchan_protocol.specs.Answering.Loads.{loads_of};
-ghost use Rattle.vchan_protocol.specs.OneEnd.OneCall.{bytes_in};
+ghost use Rattle.vchan_protocol.specs.OneEnd.OneCall.{MadeOneCall, bytes_in};
 ghost use Rattle.vchan_rule.specs.Seated.{view, IsOpen};
 ghost use Rattle.vchan_rule.specs.Ends.{IsSameEnd};
 ghost use Rattle.vchan_rule.specs.Called.{most_asked};
@@ -85,6 +85,7 @@ pub fn write(end: &mut End<'_>, payload: &[u8]) -> WriteAnswer
     ensures open { IsOpen end.new }
     ensures view { view end.new ≡ wrote_to (view end.old) result payload.now }
     ensures few { (count : ℕ) → result ≡ WriteAnswer.Wrote count → count ≤ length payload.now }
+    ensures once { MadeOneCall end.old.side (Write (most_asked payload.now)) end.new.side (write_told result) }
     ensures trail { Trace (standing_of end.old.side) (Write (most_asked payload.now)) end.new.side.trail (write_told result) }
     ensures cause { (other : WriteAnswer) → (result ≡ other) ↔ WriteCause (standing_of end.old.side) (most_asked payload.now) (loads_of (standing_of end.old.side) end.new.side.trail) (write_told other) }
 {
@@ -103,6 +104,7 @@ pub fn read(end: &mut End<'_>, buf: &mut [u8]) -> ReadAnswer
     ensures view { view end.new ≡ read_from (view end.old) result buf.new }
     ensures long { length buf.new ≡ length buf.old }
     ensures few { (count : ℕ) → result ≡ ReadAnswer.Got count → count ≤ length buf.old }
+    ensures once { MadeOneCall end.old.side (Read (most_asked buf.old)) end.new.side (read_told result) }
     ensures trail { Trace (standing_of end.old.side) (Read (most_asked buf.old)) end.new.side.trail (read_told result) }
     ensures fills { buf.new ≡ filled buf.old (bytes_loaded end.new.side.trail) }
     ensures kept { bytes_in (read_told result) ≡ 0 → buf.new ≡ buf.old }

@@ -3,9 +3,14 @@ use Rattle.vchan_protocol.specs.declared.call.Answer.{Answer}
 use Rattle.vchan_protocol.specs.declared.call.Call.TheVariants.{Close}
 use Rattle.vchan_protocol.specs.Table.Calls.{Trace}
 use Rattle.vchan_protocol.specs.History.Core.{standing_of}
+use Rattle.vchan_protocol.specs.OneEnd.OneCall.{MadeOneCall}
 use Rattle.vchan_rule.specs.Seated.{view}
 use Rattle.vchan_lifecycle.proofs.LifecycleLaws.{close_done, close_events, close_view}
 use Rattle.vchan_lifecycle.proofs.close.Goals as goal
+
+pub returns-clause-once : goal.returns-clause-once
+returns-clause-once c =
+    subst (λ (a : Answer). MadeOneCall c.args.end.now.side Close c.do_call.new.self.side a) (close_done (standing_of c.args.end.now.side) _ _ c.do_call.ensures.over.trace) c.do_call.ensures.once
 
 pub returns-clause-trail : goal.returns-clause-trail
 returns-clause-trail c =

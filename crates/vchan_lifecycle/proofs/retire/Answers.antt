@@ -5,10 +5,16 @@ use Rattle.vchan_protocol.specs.declared.call.Call.TheVariants.{Retire}
 use Rattle.vchan_protocol.specs.declared.side.Side.{Side}
 use Rattle.vchan_protocol.specs.Table.Calls.{Trace}
 use Rattle.vchan_protocol.specs.History.Core.{standing_of}
+use Rattle.vchan_protocol.specs.OneEnd.OneCall.{MadeOneCall}
 use Rattle.vchan_rule.specs.Seated.{view}
 use Rattle.vchan_lifecycle.specs.Lifecycle.{ops}
 use Rattle.vchan_lifecycle.proofs.LifecycleLaws.{retire_done, retire_events, retire_view, rest_view}
 use Rattle.vchan_lifecycle.proofs.retire.Goals as goal
+
+pub returns-clause-once : goal.returns-clause-once
+returns-clause-once c =
+    subst (λ (s : Side). MadeOneCall c.args.end.side Retire s Done) (sym c.rest.ensures.same.1)
+    (subst (λ (a : Answer). MadeOneCall c.args.end.side Retire c.do_call.new.self.side a) (retire_done (standing_of c.args.end.side) _ _ c.do_call.ensures.over.trace) c.do_call.ensures.once)
 
 pub returns-clause-trail : goal.returns-clause-trail
 returns-clause-trail c =

@@ -3,6 +3,7 @@ use Rattle.vchan_protocol.specs.declared.call.Answer.{Answer}
 use Rattle.vchan_protocol.specs.declared.call.Call.TheVariants.{Recv}
 use Rattle.vchan_protocol.specs.Table.Calls.{Trace}
 use Rattle.vchan_protocol.specs.History.Core.{standing_of}
+use Rattle.vchan_protocol.specs.OneEnd.OneCall.{MadeOneCall}
 use Rattle.vchan_protocol.specs.OneEnd.EndingLaw.{tells_end}
 use Rattle.end_view.specs.AfterCall.{answered_view}
 use Rattle.vchan_rule.specs.Seated.{view}
@@ -15,6 +16,13 @@ pub recv_answer-requires : goal.recv_answer-requires
 recv_answer-requires c =
     let trace = subst (λ (n : ℕ). Trace (standing_of c.args.end.now.side) (Recv n) c.do_call.new.self.side.trail c.do_call.result) c.asked.ensures c.do_call.ensures.over.trace in
     (recv_answers _ c.args.buf.now _ _ trace).0
+
+pub returns-clause-once : goal.returns-clause-once
+returns-clause-once c =
+    let trace = subst (λ (n : ℕ). Trace (standing_of c.args.end.now.side) (Recv n) c.do_call.new.self.side.trail c.do_call.result) c.asked.ensures c.do_call.ensures.over.trace in
+    let told = ap (recv_told (most_asked c.args.buf.now)) c.recv_answer.ensures ∙ (recv_answers _ c.args.buf.now _ _ trace).1 in
+    let once = subst (λ (n : ℕ). MadeOneCall c.args.end.now.side (Recv n) c.do_call.new.self.side c.do_call.result) c.asked.ensures c.do_call.ensures.once in
+    subst (λ (a : Answer). MadeOneCall c.args.end.now.side (Recv (most_asked c.args.buf.now)) c.do_call.new.self.side a) (sym told) once
 
 pub returns-clause-trail : goal.returns-clause-trail
 returns-clause-trail c =

@@ -399,7 +399,7 @@ tells_along sent got s o l g side (does op next) (event ∷ events) answer h m l
     tells_along sent got (stored_then event.op s) (shown_then side.role event.op s o) (loaded_then event.op l) (released_then side.role event.op l g) (made side event.op event.taken) (next event.taken) events answer
     (shows_on sent got s o l g side event.taken h event.op first.0) (first.1 event.taken) led.1
 
-along_trail : (s : Side) (events : List PastEvent) → (side_along s events).trail ≡ s.trail ++ events
+pub along_trail : (s : Side) (events : List PastEvent) → (side_along s events).trail ≡ s.trail ++ events
 along_trail s [] = sym (append-nil s.trail)
 along_trail s (event ∷ events) = along_trail (made s event.op event.taken) events ∙ append_assoc s.trail (past event.op event.taken ∷ []) events
 

@@ -14,14 +14,14 @@ use Rattle.vchan_protocol.specs.Table.Plan.{Plan, answers, does, after, rest_aft
 use Rattle.vchan_protocol.specs.Table.Ends.{Standing}
 use Rattle.vchan_protocol.specs.Table.Calls.{plan_of, stored_most, loaded_most, most_events}
 use Rattle.vchan_protocol.specs.Table.Apply.{filled}
-use Rattle.vchan_protocol.specs.History.Core.{begins, begun_standing, standing_of, standing_along, plan_left, op_next, made, settled, side_after, answered, answer_in, loaded_by, count_stored, bytes_loaded, drains, first_ended, ending, misleads}
-use Rattle.vchan_protocol.specs.OneEnd.OneCall.{side_along, side_called, bytes_out, bytes_in, landed, OnWay, IsOver, IsThen, WayGoesOn, OverTells}
+use Rattle.vchan_protocol.specs.History.Core.{begun_by, begins, begun_standing, standing_of, standing_along, plan_left, op_next, made, settled, side_after, ended_call, answered, answer_in, loaded_by, count_stored, bytes_loaded, drains, first_ended, ending, misleads}
+use Rattle.vchan_protocol.specs.OneEnd.OneCall.{side_along, side_called, bytes_out, bytes_in, landed, OnWay, IsOver, MadeOneCall, IsThen, WayGoesOn, OverTells}
 use Rattle.vchan_protocol.proofs.Table.PlanLaws.{Leads_more, rest_after_Leads}
 use Rattle.vchan_protocol.proofs.Table.Counted.{Counted, Owes, counted_call, Counted_Leads}
-use Rattle.vchan_protocol.proofs.Table.Bounds.{ends_call, length_Leads_more}
+use Rattle.vchan_protocol.proofs.Table.Bounds.{ends_call, length_Leads, length_Leads_more}
 use Rattle.vchan_protocol.proofs.History.EventLaws.{owes_next}
 use Rattle.vchan_protocol.proofs.History.WholeCallLaws.{bytes_loaded_push, set_next}
-use Rattle.vchan_protocol.proofs.OneEnd.OneCallBytes.{answers_tell}
+use Rattle.vchan_protocol.proofs.OneEnd.OneCallBytes.{answers_tell, along_trail}
 
 -- ---- an end along its own events
 
@@ -43,9 +43,6 @@ along_orders s (event ∷ events) = along_orders (made s event.op event.taken) e
 
 -- ---- on the way of a call
 
-abbrev now_begun : Side → Call → Begun
-now_begun was call = record { call = call; state = was.state; prod = was.prod; cons = was.cons }
-
 pub way_begins : (was : Side) (call : Call) (payload start : List ℕ) → OnWay was call payload start (begins was call payload) start
 way_begins was call payload start = record { is = refl; led = refl; fills = refl }
 
@@ -53,10 +50,10 @@ way_begins was call payload start = record { is = refl; led = refl; fills = refl
 left_is : (was : Side) (call : Call) (payload : List ℕ) (s : Side) (plan : Plan) → s ≡ side_along (begins was call payload) s.trail → Leads (plan_of (standing_of was) call) s.trail plan → plan_left s ≡ plan
 left_is was call payload s plan is led =
     let began = begins was call payload in
-    let calls : s.call ≡ Some (now_begun was call) = ap (λ (z : Side). z.call) is ∙ along_call began s.trail in
+    let calls : s.call ≡ Some (begun_by was call) = ap (λ (z : Side). z.call) is ∙ along_call began s.trail in
     let role : s.role ≡ was.role = ap (λ (z : Side). z.role) is ∙ along_role began s.trail in
     let orders : s.orders ≡ was.orders = ap (λ (z : Side). z.orders) is ∙ along_orders began s.trail in
-    let stood : begun_standing s (now_begun was call) ≡ standing_of was = λ i. record { role = role i; orders = orders i; state = was.state; prod = was.prod; cons = was.cons } in
+    let stood : begun_standing s (begun_by was call) ≡ standing_of was = λ i. record { role = role i; orders = orders i; state = was.state; prod = was.prod; cons = was.cons } in
     subst (λ (c : Option Begun). elim c [ None ↦ answers Done | Some b ↦ rest_after (plan_of (begun_standing s b) b.call) s.trail ] ≡ plan) (sym calls)
     (ap (λ (e : Standing). rest_after (plan_of e call) s.trail) stood ∙ rest_after_Leads (plan_of (standing_of was) call) s.trail plan led)
 
@@ -188,6 +185,19 @@ over_misled was call payload start s buffer answer o = ap (λ (z : Side). z.misl
 along_turned : (s : Side) (events : List PastEvent) → (side_along s events).turned ≡ s.turned
 along_turned s [] = refl
 along_turned s (event ∷ events) = along_turned (made s event.op event.taken) events
+
+along_calls : (s : Side) (events : List PastEvent) → (side_along s events).calls ≡ s.calls
+along_calls s [] = refl
+along_calls s (event ∷ events) = along_calls (made s event.op event.taken) events
+
+-- the call is the only one that the end has made since
+pub over_once : (was : Side) (call : Call) (payload start : List ℕ) (s : Side) (buffer : List ℕ) (answer : Answer) → IsOver was call payload start s buffer answer → MadeOneCall was call s answer
+over_once was call payload start s buffer answer o =
+    let began = begins was call payload in
+    record {
+      calls = ap (λ (z : Side). z.calls) o.is ∙ (λ i. along_calls began s.trail i ++ ended_call (along_call began s.trail i) (along_trail began s.trail i) answer);
+      bound = length_Leads (plan_of (standing_of was) call) s.trail (answers answer) (most_events (standing_of was) call) (ends_call (standing_of was) call) o.trace;
+    }
 
 pub over_tells : (was : Side) (call : Call) (payload start : List ℕ) (s : Side) (buffer : List ℕ) (answer : Answer) → IsOver was call payload start s buffer answer → OverTells was payload s buffer answer
 over_tells was call payload start s buffer answer o = record {

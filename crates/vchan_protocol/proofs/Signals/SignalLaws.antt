@@ -1,6 +1,6 @@
 -- No event of an honest end loses a signal.
-use Rattle.std.proofs.Common.{◌≡◌, ◌≢◌, ◌⊎◌, inl, inr, ℕ, ◌-◌, ◌≤◌, ◌==◌, false, Option, Some, None, List, length, slice_index, slice_set, bit_and, refl, subst, sym, ap, ◌∙◌, arith}
-use Rattle.std.proofs.lemmas.Bool.{false≢true, eqb-false, cases_eq}
+use Rattle.std.proofs.Common.{◌≡◌, ◌≢◌, ◌⊎◌, inl, inr, ℕ, ◌-◌, ◌≤◌, ◌==◌, Bool, true, false, cond, Option, Some, None, List, length, slice_index, slice_set, bit_and, refl, subst, sym, ap, ◌∙◌, arith}
+use Rattle.std.proofs.lemmas.Bool.{false≢true, eqb-true, eqb-false, cases_eq}
 use Rattle.std.proofs.lemmas.List.{length-set}
 use Rattle.std.proofs.lemmas.Option.{none-some}
 use Rattle.ring_words.specs.Page.{index_of}
@@ -36,7 +36,7 @@ use Rattle.vchan_protocol.proofs.Signals.Notifies.{loads, loads_byte, stores_byt
 use Rattle.vchan_protocol.proofs.Signals.OwnSteps.{plan_left_made, plan_notifies, Step, Told, own_same, own_load, own_asks}
 use Rattle.vchan_protocol.proofs.Signals.OtherSteps.{other_same, is_store, is_test, no_signal, no_test, other_store, woken_told, other_tests, other_indexes, other_closes, other_retires}
 
--- ---- an event taken
+-- ---- a try to take an event
 
 -- of an end that has noted nothing, nothing is claimed
 told_nothing : (core : Core) (who : Role) → (side_of core who).notes ≡ nothing_noted → Told core who
@@ -80,12 +80,20 @@ told_own old new who op next header step deed told = go deed
     elsewhere : (n value : ℕ) → new.words ≡ slice_set old.words n value → Unwatched old.orders who n → (side_of new who).notes ≡ (side_of old who).notes → Told new who
     elsewhere n value is un same = own_same old new who step.other_is (kept_elsewhere old new who n value step.orders_are is un) same told
 
+    -- a try that found no event leaves all words and all notes
+    tried : op ≡ Swap (own_pending who) 0 → (none : Bool) → (held old (own_pending who) == 0) ≡ none → Told new who
+    tried is true none =
+        own_same old new who step.other_is
+        (kept_all old new who (index_of old.orders (own_pending who)) step.orders_are (words (Swap (own_pending who) 0) is ∙ ap (λ (v : ℕ). slice_set old.words (index_of old.orders (own_pending who)) v) (sym (eqb-true _ _ none))))
+        (notes (Swap (own_pending who) 0) is ∙ ap (λ (b : Bool). cond b (side_of old who).notes nothing_noted) none) told
+    tried is false some = told_nothing new who (notes (Swap (own_pending who) 0) is ∙ ap (λ (b : Bool). cond b (side_of old who).notes nothing_noted) some)
+
     go : Deed who op next → Told new who
     go (loads word is) = own_load old new who word step.other_is (kept_all old new who (index_of old.orders word) step.orders_are (words (Load word) is)) (notes (Load word) is) told
     go (loads_byte word at is) = own_same old new who step.other_is (kept_all old new who (index_of old.orders word) step.orders_are (words (LoadByte word at) is)) (notes (LoadByte word at) is) told
     go (stores_byte ring at i is) = elsewhere _ _ (words (StoreByte (RingByte ring at) i) is) (unwatched_high old.orders who _ (byte_above old.orders ring at)) (notes (StoreByte (RingByte ring at) i) is)
     go (asks bit is) = own_asks old new who bit header step.other_is step.orders_are (words (Or (ask_word who) (mask bit)) is) (notes (Or (ask_word who) (mask bit)) is) told
-    go (takes_event is) = told_nothing new who (notes (Swap (own_pending who) 0) is)
+    go (takes_event is) = tried is (held old (own_pending who) == 0) refl
     go (tests bit is more) = elsewhere _ _ (words (test_of who bit) is) (unwatched_notify old.orders who) (notes (test_of who bit) is)
     go (stores_index bit index is more) = elsewhere _ _ (words (Store (own_index who bit) index) is) (unwatched_index old.orders who bit) (notes (Store (own_index who bit) index) is)
     go (closes is more) = elsewhere _ _ (words (Store (own_live who) 0) is) (unwatched_own_live old.orders who) (notes (Store (own_live who) 0) is)

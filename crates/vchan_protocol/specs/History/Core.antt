@@ -18,6 +18,7 @@ use Rattle.vchan_protocol.specs.declared.call.EndState.{EndState}
 use Rattle.vchan_protocol.specs.declared.call.EndState.TheVariants.{Open, Shut}
 use Rattle.vchan_protocol.specs.declared.side.Side.{Side}
 use Rattle.vchan_protocol.specs.declared.side.Begun.{Begun}
+use Rattle.vchan_protocol.specs.declared.side.PastCall.{PastCall}
 use Rattle.vchan_protocol.specs.declared.side.Asked.{Asked}
 use Rattle.vchan_protocol.specs.declared.side.Notes.{Notes}
 use Rattle.vchan_protocol.specs.declared.side.EndedBy.{EndedBy}
@@ -75,6 +76,7 @@ new_side role orders start state = record {
   call = None;
   trail = [];
   payload = [];
+  calls = [];
   sent = [];
   got = [];
   saw = false;
@@ -121,10 +123,14 @@ plan_left s = elim s.call [ None ↦ answers Done | Some b ↦ rest_after (plan_
 abbrev pub op_next : Side → Op
 op_next s = next_op (plan_left s)
 
+-- how the end stands when it begins this call
+abbrev pub begun_by : Side → Call → Begun
+begun_by s call = record { call = call; state = s.state; prod = s.prod; cons = s.cons }
+
 -- the end after it begins a call with this payload
 abbrev pub begins : Side → Call → List ℕ → Side
 begins s call payload = record s {
-  call = Some (record { call = call; state = s.state; prod = s.prod; cons = s.cons });
+  call = Some (begun_by s call);
   trail = [];
   payload = payload;
 }
@@ -219,11 +225,11 @@ noted_load _ _ taken n = n
 abbrev pub asks : Asked
 asks = record { since = true; seen = None }
 
--- an end asks by an or, and takes an event by a swap: it makes no other or and no other swap
+-- An end asks by an or, and tries to take an event by a swap: it makes no other or and no other swap. A swap that took 0 found no event, and leaves the notes.
 abbrev pub noted : Op → Role → ℕ → Notes → Notes
 noted (Load word) role taken n = noted_load word role taken n
 noted (Or word bits) role taken n = if bits == 1 then record n { written = asks } else record n { consumed = asks }
-noted (Swap word value) role taken n = nothing_noted
+noted (Swap word value) role taken n = if taken == 0 then n else nothing_noted
 noted _ role taken n = n
 
 -- ---- an end after an event, and after its answer
@@ -262,9 +268,15 @@ abbrev pub first_ended : Option EndedBy → Option EndedBy → Option EndedBy
 first_ended None later = later
 first_ended (Some ended) later = Some ended
 
+-- the call under way, as one that was made
+abbrev pub ended_call : Option Begun → List PastEvent → Answer → List PastCall
+ended_call None trail answer = []
+ended_call (Some begun) trail answer = record { begun = begun; trail = trail; answer = answer } ∷ []
+
 abbrev pub answered : Side → Answer → Side
 answered s answer = record s {
   call = None;
+  calls = s.calls ++ ended_call s.call s.trail answer;
   ended = first_ended s.ended (ending answer);
   drained = s.drained || drains answer;
   misled = s.misled || misleads answer;

@@ -11,7 +11,7 @@ use Rattle.vchan_protocol.specs.declared.side.Side.{Side}
 use Rattle.vchan_protocol.specs.Table.Plan.{Leads, GoesOn, after}
 use Rattle.vchan_protocol.specs.Table.Apply.{filled}
 use Rattle.vchan_protocol.specs.Table.Calls.{plan_of, payload_of, loaded_most, most_events, Trace}
-use Rattle.vchan_protocol.specs.History.Core.{begins, made, answered, side_after, standing_of, plan_left, op_next, answer_in, count_stored, bytes_loaded, drains, ending, first_ended, misleads}
+use Rattle.vchan_protocol.specs.History.Core.{begun_by, begins, made, answered, side_after, standing_of, plan_left, op_next, answer_in, count_stored, bytes_loaded, drains, ending, first_ended, misleads}
 
 -- an end after these events of its own
 abbrev pub side_along : Side → List PastEvent → Side
@@ -67,6 +67,11 @@ pub record IsOver (was : Side) (call : Call) (payload start : List ℕ) (s : Sid
   pub is : s ≡ side_called was call payload s.trail answer
   pub trace : Trace (standing_of was) call s.trail answer
   pub fills : buffer ≡ filled start (bytes_loaded s.trail)
+
+-- since the end was as `was` it has made this one call, and no other. The events of its trail are those of the call, at most as many as the call's bound.
+pub record MadeOneCall (was : Side) (call : Call) (s : Side) (answer : Answer) : Type 0 where
+  pub calls : s.calls ≡ was.calls ++ record { begun = begun_by was call; trail = s.trail; answer = answer } ∷ []
+  pub bound : length s.trail ≤ most_events (standing_of was) call
 
 -- with no answer yet the call goes on, and with one it is over
 abbrev pub IsThen : Side → Call → List ℕ → List ℕ → Side → List ℕ → Option Answer → Type 0

@@ -55,6 +55,9 @@ pub record IsWorkedSignal (orders : Orders) : Type 0 where
   pub seen : (asked_of (asked orders).server.notes Written).seen ≡ Some 0
   pub live : (asked orders).server.notes.live ≡ Some 1
   pub bit : bit_and (held (asked orders) CliNotify) 1 ≡ 1
+  -- a try finds no event, and leaves what it has noted
+  pub tries : call_answer (asked orders) Server TakeEvent [] ≡ Event false
+  pub stays_noted : (called (asked orders) Server TakeEvent []).server.notes ≡ (asked orders).server.notes
   -- the index is another one, and the client is about to test the bit
   pub index : held (index_stored orders) LeftProd ≡ 1
   pub test_owed : OwesTest (index_stored orders) Client Written

@@ -15,13 +15,13 @@ pub returns-in-Got-clause-rounds : goal.returns-in-Got-clause-rounds
 returns-in-Got-clause-rounds g c =
     c.rounds.invariant.goes_on c.read.new.buf c.read.new.end (got.Got c.in-Got.count)
     (Ends (subst (λ (n : ℕ). IsReadRound (min n 4294967295) (read.Got c.in-Got.count) c.read.new.buf c.rounds.end c.read.new.end) c.rounds.invariant.long
-    (record { view_is = c.in-Got.ensures.view; trail = c.in-Got.ensures.trail })))
+    (record { view_is = c.in-Got.ensures.view; once = c.in-Got.ensures.once; trail = c.in-Got.ensures.trail })))
 
 pub returns-in-PeerClosed-clause-rounds : goal.returns-in-PeerClosed-clause-rounds
 returns-in-PeerClosed-clause-rounds g c =
     c.rounds.invariant.goes_on c.read.new.buf c.read.new.end got.PeerClosed
     (Ends (subst (λ (n : ℕ). IsReadRound (min n 4294967295) read.PeerClosed c.read.new.buf c.rounds.end c.read.new.end) c.rounds.invariant.long
-    (record { view_is = c.in-PeerClosed.ensures.view; trail = c.in-PeerClosed.ensures.trail })))
+    (record { view_is = c.in-PeerClosed.ensures.view; once = c.in-PeerClosed.ensures.once; trail = c.in-PeerClosed.ensures.trail })))
 
 pub returns-in-Got-clause-trail : goal.returns-in-Got-clause-trail
 returns-in-Got-clause-trail g c = (
@@ -57,6 +57,6 @@ rounds-preserved g c = record {
   goes_on = λ buffer new answer rest. c.rounds.invariant.goes_on buffer new answer
       (FindsNone c.in-Empty.prod c.in-Empty.cons c.read.new.buf c.read.new.end c.wait.new.end
       (subst (λ (n : ℕ). IsReadRound (min n 4294967295) (read.Empty c.in-Empty.prod c.in-Empty.cons) c.read.new.buf c.rounds.end c.read.new.end) c.rounds.invariant.long
-      (record { view_is = c.in-Empty.ensures.view; trail = c.in-Empty.ensures.trail }))
+      (record { view_is = c.in-Empty.ensures.view; once = c.in-Empty.ensures.once; trail = c.in-Empty.ensures.trail }))
       c.wait.ensures.waits rest);
 }

@@ -13,7 +13,7 @@ pub returns-in-Got-clause-rounds : goal.returns-in-Got-clause-rounds
 returns-in-Got-clause-rounds g c =
     c.rounds.invariant.goes_on c.recv.new.buf c.recv.new.end recv.Got
     (RecvEnds (subst (λ (n : ℕ). IsRecvRound (min n 4294967295) recv.Got c.recv.new.buf c.rounds.end c.recv.new.end) c.rounds.invariant.long
-    (record { view_is = c.in-Got.ensures.view; trail = c.in-Got.ensures.trail })))
+    (record { view_is = c.in-Got.ensures.view; once = c.in-Got.ensures.once; trail = c.in-Got.ensures.trail })))
 
 pub returns-in-Got-clause-trail : goal.returns-in-Got-clause-trail
 returns-in-Got-clause-trail g c = (
@@ -25,7 +25,7 @@ pub returns-in-PeerClosed-clause-rounds : goal.returns-in-PeerClosed-clause-roun
 returns-in-PeerClosed-clause-rounds g c =
     c.rounds.invariant.goes_on c.recv.new.buf c.recv.new.end recv.PeerClosed
     (RecvEnds (subst (λ (n : ℕ). IsRecvRound (min n 4294967295) recv.PeerClosed c.recv.new.buf c.rounds.end c.recv.new.end) c.rounds.invariant.long
-    (record { view_is = c.in-PeerClosed.ensures.view; trail = c.in-PeerClosed.ensures.trail })))
+    (record { view_is = c.in-PeerClosed.ensures.view; once = c.in-PeerClosed.ensures.once; trail = c.in-PeerClosed.ensures.trail })))
 
 pub returns-in-PeerClosed-clause-trail : goal.returns-in-PeerClosed-clause-trail
 returns-in-PeerClosed-clause-trail g c = (
@@ -49,6 +49,6 @@ rounds-preserved g c = record {
   goes_on = λ buffer new answer rest. c.rounds.invariant.goes_on buffer new answer
       (FindsFew c.in-Short.prod c.in-Short.cons c.recv.new.buf c.recv.new.end c.wait.new.end
       (subst (λ (n : ℕ). IsRecvRound (min n 4294967295) (recv.Short c.in-Short.prod c.in-Short.cons) c.recv.new.buf c.rounds.end c.recv.new.end) c.rounds.invariant.long
-      (record { view_is = c.in-Short.ensures.view; trail = c.in-Short.ensures.trail }))
+      (record { view_is = c.in-Short.ensures.view; once = c.in-Short.ensures.once; trail = c.in-Short.ensures.trail }))
       c.wait.ensures.waits rest);
 }

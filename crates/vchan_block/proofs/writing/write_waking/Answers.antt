@@ -15,25 +15,25 @@ pub returns-then-moved-bytes-clause-rounds : goal.returns-then-moved-bytes-claus
 returns-then-moved-bytes-clause-rounds g c =
     c.rounds.invariant.goes_on c.write.new.end (wrote.Wrote c.rounds.moved c.in-Wrote.count)
     (MovesLast c.in-Wrote.count
-    (round_on c.args.bytes.now _ c.rounds.moved (write.Wrote c.in-Wrote.count) c.rounds.end c.write.new.end (take_rest c.args.bytes.now c.rounds.moved) c.in-Wrote.ensures.view c.in-Wrote.ensures.trail)
+    (round_on c.args.bytes.now _ c.rounds.moved (write.Wrote c.in-Wrote.count) c.rounds.end c.write.new.end (take_rest c.args.bytes.now c.rounds.moved) c.in-Wrote.ensures.view c.in-Wrote.ensures.once c.in-Wrote.ensures.trail)
     c.if-moved-bytes.true)
 
 pub returns-in-PeerClosed-clause-rounds : goal.returns-in-PeerClosed-clause-rounds
 returns-in-PeerClosed-clause-rounds g c =
     c.rounds.invariant.goes_on c.write.new.end (wrote.PeerClosed c.rounds.moved)
     (FindsClosed
-    (round_on c.args.bytes.now _ c.rounds.moved write.PeerClosed c.rounds.end c.write.new.end (take_rest c.args.bytes.now c.rounds.moved) c.in-PeerClosed.ensures.view c.in-PeerClosed.ensures.trail))
+    (round_on c.args.bytes.now _ c.rounds.moved write.PeerClosed c.rounds.end c.write.new.end (take_rest c.args.bytes.now c.rounds.moved) c.in-PeerClosed.ensures.view c.in-PeerClosed.ensures.once c.in-PeerClosed.ensures.trail))
 
 pub returns-then-moved-bytes-clause-trail : goal.returns-then-moved-bytes-clause-trail
 returns-then-moved-bytes-clause-trail g c = (
   standing_of c.rounds.end.side,
-  (round_on c.args.bytes.now _ c.rounds.moved (write.Wrote c.in-Wrote.count) c.rounds.end c.write.new.end (take_rest c.args.bytes.now c.rounds.moved) c.in-Wrote.ensures.view c.in-Wrote.ensures.trail).trail,
+  (round_on c.args.bytes.now _ c.rounds.moved (write.Wrote c.in-Wrote.count) c.rounds.end c.write.new.end (take_rest c.args.bytes.now c.rounds.moved) c.in-Wrote.ensures.view c.in-Wrote.ensures.once c.in-Wrote.ensures.trail).trail,
 )
 
 pub returns-in-PeerClosed-clause-trail : goal.returns-in-PeerClosed-clause-trail
 returns-in-PeerClosed-clause-trail g c = (
   standing_of c.rounds.end.side,
-  (round_on c.args.bytes.now _ c.rounds.moved write.PeerClosed c.rounds.end c.write.new.end (take_rest c.args.bytes.now c.rounds.moved) c.in-PeerClosed.ensures.view c.in-PeerClosed.ensures.trail).trail,
+  (round_on c.args.bytes.now _ c.rounds.moved write.PeerClosed c.rounds.end c.write.new.end (take_rest c.args.bytes.now c.rounds.moved) c.in-PeerClosed.ensures.view c.in-PeerClosed.ensures.once c.in-PeerClosed.ensures.trail).trail,
 )
 
 pub returns-then-moved-bytes-clause-whole : goal.returns-then-moved-bytes-clause-whole
@@ -59,7 +59,7 @@ rounds-preserved g c =
                 ∙ ap (λ (n : ℕ). record (view c.args.end.now) { sent = (view c.args.end.now).sent ++ take n bytes }) (sym now);
             goes_on = λ new answer rest. c.rounds.invariant.goes_on new answer
                 (MovesSome count c.write.new.end c.wait_waking.new.end
-                (round_on bytes _ moved (write.Wrote count) c.rounds.end c.write.new.end (take_rest bytes moved) w.in-Wrote.ensures.view w.in-Wrote.ensures.trail)
+                (round_on bytes _ moved (write.Wrote count) c.rounds.end c.write.new.end (take_rest bytes moved) w.in-Wrote.ensures.view w.in-Wrote.ensures.once w.in-Wrote.ensures.trail)
                 less c.wait_waking.ensures.waits (subst (λ (n : ℕ). Writes bytes n c.wait_waking.new.end new answer) now rest));
           })
       | in-Full w ↦
@@ -72,7 +72,7 @@ rounds-preserved g c =
                 ∙ ap (λ (n : ℕ). record (view c.args.end.now) { sent = (view c.args.end.now).sent ++ take n bytes }) (sym now);
             goes_on = λ new answer rest. c.rounds.invariant.goes_on new answer
                 (FindsFull w.in-Full.prod w.in-Full.cons c.write.new.end c.wait_waking.new.end
-                (round_on bytes _ moved (write.Full w.in-Full.prod w.in-Full.cons) c.rounds.end c.write.new.end (take_rest bytes moved) w.in-Full.ensures.view w.in-Full.ensures.trail)
+                (round_on bytes _ moved (write.Full w.in-Full.prod w.in-Full.cons) c.rounds.end c.write.new.end (take_rest bytes moved) w.in-Full.ensures.view w.in-Full.ensures.once w.in-Full.ensures.trail)
                 c.wait_waking.ensures.waits (subst (λ (n : ℕ). Writes bytes n c.wait_waking.new.end new answer) now rest));
           })
     ]

@@ -1,13 +1,14 @@
-use Rattle.std.proofs.Common.{◌≡◌, refl, ap, ◌∙◌, sym, subst, inr, true, rules}
+use Rattle.std.proofs.Common.{◌≡◌, drop, refl, ap, ◌∙◌, sym, subst, inr, true, rules}
 use Rattle.std.specs.Prelude.{IsSome, is_some}
 use Rattle.service_gate.specs.Owing.{builtin_owes}
+use Rattle.service_gate.specs.declared.builtin.Builtin.{Builtin}
 use Rattle.vchan_rule.specs.Seated.{view}
 use Rattle.vchan_rule.specs.Called.{most_asked}
-use Rattle.qrexec_data.specs.ServingSide.{LendsAnswers}
+use Rattle.qrexec_data.specs.ServingSide.{LendsAnswers, ServingState}
 use Rattle.channel_session.specs.Answering.{IsAnswering, IsAtWork, ServingAt}
 use Rattle.channel_session.specs.Turning.{RingIsFull}
 use Rattle.channel_session.proofs.TurningLaws.{told_ok, none_from, finds_full, finds_shut}
-use Rattle.channel_session.proofs.AnsweringLaws.{IsLent, lent_same, lent_works, lent_answers, went_answers, went_works}
+use Rattle.channel_session.proofs.AnsweringLaws.{IsLent, over_keeps, lent_same, lent_works, lent_answers, went_answers, went_works}
 use Rattle.channel_session.proofs.serving.ServingSession.write_on.Goals.{After-write}
 use Rattle.channel_session.proofs.serving.ServingSession.write_on.Goals as goal
 
@@ -75,3 +76,8 @@ returns-in-Wrote-clause-answering c = λ owed h.
 
 pub returns-in-Wrote-clause-work : goal.returns-in-Wrote-clause-work
 returns-in-Wrote-clause-work c = went_works _ _ _ _ _ _ c.in-Wrote.count (lent (goal.at.returns-in-Wrote-clause-work c).After-write) c.advance.ensures.gone c.in-Wrote.ensures.view
+
+pub returns-in-Wrote-clause-own : goal.returns-in-Wrote-clause-own
+returns-in-Wrote-clause-own c =
+    let lent = c.front.follows.lender-at-none.answering in
+    ap (λ (s : ServingState Builtin). s.answering.own) c.advance.ensures.gone ∙ (over_keeps (record lent { waiting = drop c.in-Wrote.count lent.waiting })).1 ∙ own (goal.at.returns-in-Wrote-clause-own c).After-write

@@ -1,4 +1,6 @@
-use Rattle.std.proofs.Common.{◌≡◌, ◌∙◌, ◌++◌, ◌∷◌, [], ap, length, refl, subst, sym, false}
+use Rattle.std.proofs.Common.{Result, Ok, Err, ◌≡◌, ◌∙◌, ◌++◌, ◌∷◌, [], ap, length, refl, subst, sym, false}
+use Rattle.std.specs.Prelude.{IsErr, OnOk}
+use Rattle.std.specs.declared.alloc.AllocError.{AllocError}
 use Rattle.std.proofs.lemmas.Bool.{and_parts}
 use Rattle.atomic_table.specs.Seated.{TableId}
 use Rattle.ring_words.specs.declared.page.Role.TheVariants.{Server, Client}
@@ -68,3 +70,14 @@ returns-in_ok-deal_data-in-Offered-seats-2-clause-orders c = λ s laid ordered.
     let for = subst (λ (r : RunPage). IsLaidFor s (page_at r)) c.in-Offered.is laid in
     let honest = and_parts _ _ (sym for.when) in
     c.in_ok-deal_data-in-Offered-seats-2.ensures.orders s (is_no _ honest.0) (is_no _ honest.1) ordered
+
+-- where memory ran out nothing is said
+none_dealt : (P : Type 0) (r : Result (Unit {0}) AllocError) → IsErr r → OnOk r P
+none_dealt P (Err e) refused = tt
+none_dealt P (Ok v) refused = cc
+
+pub returns-in_err-deal_laid-in-Laid-seats-clause-dealt : goal.returns-in_err-deal_laid-in-Laid-seats-clause-dealt
+returns-in_err-deal_laid-in-Laid-seats-clause-dealt c = λ pages dealt. none_dealt _ c.from_residual.result c.from_residual.ensures.0
+
+pub returns-in_err-deal_data-in-Offered-seats-2-clause-dealt : goal.returns-in_err-deal_data-in-Offered-seats-2-clause-dealt
+returns-in_err-deal_data-in-Offered-seats-2-clause-dealt c = λ pages dealt. none_dealt _ c.from_residual-in_err-deal_data-in-Offered-seats-2.result c.from_residual-in_err-deal_data-in-Offered-seats-2.ensures.0
