@@ -12,3 +12,6 @@ pub mod ServesLaws
 pub mod ServingLaws
 pub mod PackLaws
 pub mod MaySendLaws
+pub mod GoingLaws
+pub mod AmountLaws
+pub mod PairLaws

@@ -10,3 +10,4 @@ pub mod CallerSide
 pub mod CallerLent
 pub mod Answering
 pub mod ServingSide
+pub mod Session

@@ -1,5 +1,6 @@
-//! Laws of what one side of a call sees of what the other sends. A law is a function with no body,
-//! whose contract states it.
+//! Laws of what one side of a call sees of what the other sends, and of both together. A law is a
+//! function with no body, whose contract states it.
+ghost use Rattle.qrexec_data.specs.Session.{SessionsGoOn, SessionsSendLittle};
 ghost use Rattle.qrexec_data.specs.Laws.{CallersSeeTriples, CallersAreDone, CallersWait, InputsAreRead, GreetingsAreNoFault, CallersSendStreams, ServingSendsStreams, DoneSendsAll};
 
 use service_gate::Service;
@@ -48,4 +49,16 @@ pub fn serving_sends_streams<S: Service>()
 /// A serving side that is done has sent its whole stream, and its code is the service's.
 pub fn done_sends_all<S: Service>()
     ensures { DoneSendsAll S }
+{}
+
+/// While nothing has decided a session, and each side has got all that the other sent, one of the two has
+/// something to send.
+pub fn sessions_go_on<S>()
+    ensures { SessionsGoOn S }
+{}
+
+/// A side of a session sends no more than its input, or what its service owes, makes up in messages of one byte each,
+/// with a greeting, the ends of its streams and an exit code, whatever its peer sends.
+pub fn sessions_send_little()
+    ensures { SessionsSendLittle }
 {}

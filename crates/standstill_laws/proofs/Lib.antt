@@ -1,5 +1,4 @@
 mod PageLaws
-mod SessionLaws
 mod TurnLaws
 mod ControlLaws
 mod SayingLaws

@@ -24,7 +24,7 @@ use Rattle.standstill_laws.specs.Stretch.{AreMoments}
 use Rattle.standstill_laws.specs.Moments.{IsBetween, WasSo}
 use Rattle.standstill_laws.specs.Pace.{IsQuietBetween, FoundBetween, RestsLong, NoSessionRests}
 use Rattle.standstill_laws.proofs.PageLaws.{stands_still}
-use Rattle.standstill_laws.proofs.SessionLaws.{sessions_go_on_lem}
+use Rattle.qrexec_data.proofs.GoingLaws.{sessions_go_on_lem}
 use Rattle.standstill_laws.proofs.TurnLaws.{found_nothing, nothing_waits}
 use Rattle.standstill_laws.proofs.OverLaws.{peer_is_there_lem}
 use Rattle.standstill_laws.proofs.SideLaws.{all_same, QuietOne, quiet_one, end_bytes}

@@ -22,7 +22,7 @@ use Rattle.qrexec_data.specs.ServingSide.{ServingStandsFor}
 use Rattle.standstill_laws.specs.Page.{IsStanding, FoundNothing, IsFull, StandsStill}
 use Rattle.standstill_laws.specs.Turns.{SendsStill, IsQuietStill, NoSessionStandsStill}
 use Rattle.standstill_laws.proofs.PageLaws.{stands_still}
-use Rattle.standstill_laws.proofs.SessionLaws.{sessions_go_on_lem}
+use Rattle.qrexec_data.proofs.GoingLaws.{sessions_go_on_lem}
 
 -- a write answers that the peer is shut only if it found it so
 closed_by : (e : Standing) (n : ℕ) (loads : Loads) → WriteCause e n loads PeerClosed → FoundShut loads

@@ -28,7 +28,8 @@ use Rattle.standstill_laws.specs.Counting.{work_of_all}
 use Rattle.standstill_laws.specs.Traffic.{sum_below, call_bytes}
 use Rattle.standstill_laws.specs.Work.{DataPage, both_sessions, IsDataPage, SidesSendSo, all_below, call_work}
 use Rattle.standstill_laws.specs.Mixed.{most_got, HostilePage, role_with, SendsAsItMay, IsHostilePage, page_work}
-use Rattle.standstill_laws.proofs.BoundLaws.{sides_send_little, sessions_send_little_lem, owed_little, seen_little}
+use Rattle.qrexec_data.proofs.AmountLaws.{sides_send_little, sessions_send_little_lem, owed_little}
+use Rattle.standstill_laws.proofs.BoundLaws.{seen_little}
 use Rattle.standstill_laws.proofs.SumLaws.{sum_together}
 use Rattle.standstill_laws.proofs.TrafficLaws.{got_little}
 
@@ -66,7 +67,7 @@ session_most call = 2 + most_work call.stdin
 
 both_work : (p : DataPage) → IsDataPage p → work_in p.caller + work_in p.serving ≤ session_most p.call
 both_work p is =
-    let sent = sides_send_little p.core is.own chunk is.other chunk p.call.stdin is.service is.lawful is.version is.calls is.serves in
+    let sent = sides_send_little is.own chunk is.other chunk p.call.stdin p.core.server.got p.core.server.sent p.core.client.got p.core.client.sent is.service is.version is.calls is.lawful.right.lawful.prefix is.serves in
     let came_left = prefix_length p.core.server.got p.core.client.sent is.lawful.left.lawful.prefix in
     let came_right = prefix_length p.core.client.got p.core.server.sent is.lawful.right.lawful.prefix in
     let caller_got = is.caller_end.got in

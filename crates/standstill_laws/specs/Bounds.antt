@@ -19,20 +19,6 @@ use Rattle.agent_task.specs.State.{AgentState, TellsSoFar}
 use Rattle.agent_task.specs.Telling.{heard_on}
 use Rattle.domain_task.specs.Working.{work_in}
 
--- A caller with this input sends at most a greeting of 12 bytes, a message for each byte of the input, with a header of 8, and one that ends the input.
-abbrev pub most_requested : List ℕ → ℕ
-most_requested input = 20 + 9 * length input
-
--- A side whose service owes this sends at most a greeting, a message for each byte of its outputs, one that ends each of them, and an exit code in 12 bytes.
-abbrev pub most_answered : Triple → ℕ
-most_answered t = 40 + 9 * (length t.stdout + length t.stderr)
-
--- whatever its peer sends
-abbrev pub SessionsSendLittle : Type 0
-SessionsSendLittle =
-    ((own chunk : ℕ) (input got sent : List ℕ) → CallerMaySend own chunk input got sent → length sent ≤ most_requested input)
-    × ((own chunk : ℕ) (owed : List ℕ → Triple) (got sent : List ℕ) → ServingMaySend own chunk owed got sent → length sent ≤ most_answered (owed (serving_sees got).input))
-
 -- A session of a built-in service between honest ends, whose caller has this input: the side that serves sees no more input than that, a service owes at most 21 bytes more than its input,
 -- each side gets at most what the other sent, and each takes two steps before its end.
 abbrev pub most_work : List ℕ → ℕ

@@ -1,6 +1,5 @@
 pub mod Page
 pub mod Sides
-pub mod Session
 pub mod Turns
 pub mod Control
 pub mod Saying

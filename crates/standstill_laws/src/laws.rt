@@ -2,7 +2,6 @@
 ghost use Rattle.std.specs.Prelude.{ℕ, ◌<◌, ◌^◌};
 ghost use Rattle.ring_words.specs.declared.order.Orders.{Orders};
 ghost use Rattle.standstill_laws.specs.Page.{PageStandsStill, StillPagesAreThere};
-ghost use Rattle.standstill_laws.specs.Session.{SessionsGoOn};
 ghost use Rattle.standstill_laws.specs.Turns.{NoSessionStandsStill};
 ghost use Rattle.standstill_laws.specs.Control.{AllIsHeard};
 ghost use Rattle.standstill_laws.specs.Saying.{AgentsHaveSaidAll, BrokerHasSaidAll};
@@ -15,7 +14,7 @@ ghost use Rattle.standstill_laws.specs.Settling.{NoCallIsLive, NoCallOfDroppedIs
 ghost use Rattle.standstill_laws.specs.Standstill.{RunsDoNotStandStill, NoAgentIsLeft};
 ghost use Rattle.standstill_laws.specs.Keeping.{FindingsStay};
 ghost use Rattle.standstill_laws.specs.Counting.{TurnsAreBounded};
-ghost use Rattle.standstill_laws.specs.Bounds.{AgentsSayFew, OutboxesHoldFew, SessionsSendLittle, SessionWorkIsBounded};
+ghost use Rattle.standstill_laws.specs.Bounds.{AgentsSayFew, OutboxesHoldFew, SessionWorkIsBounded};
 ghost use Rattle.standstill_laws.specs.Traffic.{AgentsSpeak, ControlMessagesAreFew, ControlBytesAreFew};
 ghost use Rattle.standstill_laws.specs.Work.{SidesSendSo, RunWorkIsBounded, RunTurnsAreBounded};
 ghost use Rattle.standstill_laws.specs.Taking.{TakenIsBounded};
@@ -36,12 +35,6 @@ ghost use Rattle.standstill_laws.specs.Order.{EndsComeInOrder, NoneIsEarly, Agen
 /// peer that was found shut, and whose live byte hasn't changed since, is shut.
 pub fn page_stands_still()
     ensures { PageStandsStill }
-{}
-
-/// While nothing has decided a session, and each side has got all that the other sent, one of the two has
-/// something to send.
-pub fn sessions_go_on<S>()
-    ensures { SessionsGoOn S }
 {}
 
 /// An open session between honest ends doesn't stand still: it isn't so that both its sides made quiet turns
@@ -280,12 +273,6 @@ pub fn control_pages_rest()
 /// than what the tasks have done in the end.
 pub fn turns_are_bounded()
     ensures { TurnsAreBounded }
-{}
-
-/// A side of a session sends no more than its input, or what its service owes, makes up in messages of one byte each,
-/// with a greeting, the ends of its streams and an exit code, whatever its peer sends.
-pub fn sessions_send_little()
-    ensures { SessionsSendLittle }
 {}
 
 /// So on a page between honest ends the two sides of an open session of a built-in service have done no more than a

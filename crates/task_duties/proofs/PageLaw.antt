@@ -16,59 +16,14 @@ use Rattle.qrexec_data.specs.declared.outcome.Outcome.TheVariants.{Done, Fault, 
 use Rattle.qrexec_data.specs.Seeing.{Verdict, Undecided, Exited, CallerSeen, ServingSeen, caller_sees, serving_sees}
 use Rattle.qrexec_data.specs.Sending.{agreed, most, Begins, IsCallerStream, IsServingStream, IsServingBegun, ServingMaySend}
 use Rattle.qrexec_data.specs.Fitting.{FitsCaller, FitsServing}
-use Rattle.qrexec_data.proofs.SessionLaws.{caller_fits, caller_done, caller_undecided, serving_reads, serving_waits}
+use Rattle.qrexec_data.proofs.SessionLaws.{caller_done}
+use Rattle.qrexec_data.proofs.PairLaws.{Told, reads_input, sees_serving}
 use Rattle.qrexec_data.specs.Laws.{FitsTriple, ReadsInput, IsVersion}
 use Rattle.task_duties.specs.declared.done.CallerDone.{CallerDone}
 use Rattle.task_duties.specs.Agent.Sessions.{chunk, IsClosed, CallerOwes, CallerEnded, ServingOwes, ServingEnded}
 
-is_empty : (a b : List ℕ) → a ++ b ≡ [] → a ≡ []
-is_empty [] b h = refl
-is_empty (x ∷ a) b h = cc
-
 limit_fits : (v : ℕ) → min chunk (most v) ≤ 65536
 limit_fits v = omega arith
-
--- the serving side's reading of what an honest caller sent
-reads : (own : ℕ) (input sent got : List ℕ) (version : Option ℕ) → IsVersion own
-    → MatchOption version (IsPrefixOf sent (written (Hello own))) (λ v. Begins (IsCallerStream own (min chunk (most v)) input) sent)
-    → IsPrefixOf got sent → ReadsInput input (serving_sees got)
-reads own input sent got None is may prefix =
-    let h = serving_waits own got is.least is.small (prefix_trans got sent (written (Hello own)) prefix may) in
-    record { fault = h.0; whole = λ e. let no = h.1 in cc }
-reads own input sent got (Some v) is may prefix =
-    serving_reads own (min chunk (most v)) input may.0 got is.least is.small (limit_fits v) may.1 (prefix_trans got sent (flat_map written may.0) prefix may.2)
-
--- what an honest caller makes of what an honest serving side sent: nothing decided, or its input has ended and the triple came
-abbrev pub Told : (List ℕ → Triple) → ServingSeen → CallerSeen → Type 0
-Told owed seen told =
-    (told.verdict ≡ Undecided)
-    ⊎ ((seen.ended ≡ true) × (told ≡ record { verdict = Exited (owed seen.input).code; stdout = (owed seen.input).stdout; stderr = (owed seen.input).stderr }))
-
-told : (own limit : ℕ) (owed : List ℕ → Triple) (seen : ServingSeen) (sent got : List ℕ) (b : Bool) → seen.ended ≡ b → IsVersion own → limit ≤ 65536
-    → ((x : List ℕ) → FitsSigned w32 (owed x).code)
-    → MatchBool b (Begins (IsServingStream own limit (owed seen.input)) sent) (Begins (IsServingBegun own limit owed seen.input) sent)
-    → IsPrefixOf got sent → Told owed seen (caller_sees got)
-told own limit owed seen sent got true over is least codes may prefix =
-    by_fits (caller_fits own limit (owed seen.input) may.0 got is.least is.small least (codes seen.input) may.1 (prefix_trans got sent (flat_map written may.0) prefix may.2))
-  where
-    by_fits : FitsTriple (owed seen.input) (caller_sees got) → Told owed seen (caller_sees got)
-    by_fits (inl h) = inl h
-    by_fits (inr h) = inr (over, h)
-told own limit owed seen sent got false over is least codes may prefix =
-    let all : IsPrefixOf got (flat_map written may.0) = prefix_trans got sent (flat_map written may.0) prefix may.2 in
-    let begun = may.1 in
-    let stream = rw begun.is at all in
-    inl (caller_undecided own limit begun.pieces got is.least is.small least begun.each stream)
-
-sees_serving : (own : ℕ) (owed : List ℕ → Triple) (served_got sent got : List ℕ) (version : Option ℕ) → agreed own served_got ≡ version → IsVersion own
-    → ((x : List ℕ) → FitsSigned w32 (owed x).code) → ServingMaySend own chunk owed served_got sent → IsPrefixOf got sent → Told owed (serving_sees served_got) (caller_sees got)
-sees_serving own owed served_got sent got None which is codes may prefix =
-    let none : sent ≡ [] = rw which at may in
-    let nothing : got ≡ [] = is_empty got prefix.0 (prefix.1 ∙ none) in
-    inl (rw nothing refl)
-sees_serving own owed served_got sent got (Some v) which is codes may prefix =
-    let m = rw which at may in
-    told own (min chunk (most v)) owed (serving_sees served_got) sent got (serving_sees served_got).ended refl is (limit_fits v) codes m prefix
 
 -- the caller is done with the triple, and the side that serves has read the whole input with its end
 pub record IsCallDone (owed : List ℕ → Triple) (input : List ℕ) (done : CallerDone) (serving : EndView) : Type 0 where
@@ -91,10 +46,10 @@ outcome_done own_f own_t name input done o served_got caller serving is_f is_t p
     seen = serving_sees serving.got
 
     read : ReadsInput input seen
-    read = reads own_f input caller.sent serving.got (agreed own_f caller.got) is_f owes.sent page.right.in_order
+    read = reads_input own_f chunk input caller.sent serving.got (agreed own_f caller.got) is_f owes.sent page.right.in_order
 
     knows : Told owed seen (caller_sees caller.got)
-    knows = sees_serving own_t owed serving.got serving.sent caller.got (agreed own_t serving.got) refl is_t codes served.sent page.left.in_order
+    knows = sees_serving own_t chunk owed serving.got serving.sent caller.got (agreed own_t serving.got) refl is_t codes served.sent page.left.in_order
 
     whole : IsSome caller.ended → caller.got ≡ serving.sent
     whole over = page.left.whole (page.left.over over)

@@ -8,6 +8,8 @@
 #[cfg(test)]
 mod broker;
 #[cfg(test)]
+mod driven;
+#[cfg(test)]
 mod errors;
 #[cfg(test)]
 mod frames;

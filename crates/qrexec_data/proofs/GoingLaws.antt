@@ -27,7 +27,7 @@ use Rattle.qrexec_data.specs.ServingSide.{SendsAnswers}
 use Rattle.qrexec_data.specs.Answering.{AnsweringState}
 use Rattle.qrexec_data.proofs.PieceLaws.{the_messages, NoneEnded, none_more, serving_carries}
 use Rattle.qrexec_data.specs.Laws.{IsVersion}
-use Rattle.standstill_laws.specs.Session.{SessionsGoOn}
+use Rattle.qrexec_data.specs.Session.{SessionsGoOn}
 
 -- ---- a greeting that was got is read
 

@@ -1,0 +1,4 @@
+pub mod PageLaws
+pub mod MovingLaws
+pub mod SidesLaws
+pub mod EndLaws
