@@ -1,6 +1,6 @@
 /*
- * The messages of qrexec, the service calls of Qubes OS: a reader of a stream in three forms, and a writer for each
- * type. All functions here are those of the proved library (crates/qrexec_c); there is no other code.
+ * The messages of qrexec, the service calls of Qubes OS: a reader of a stream in three forms, a writer for each type,
+ * the two sides of a call, and a broker's decision on one. All functions but qrexec_call_* are those of the proved library (crates/qrexec_c).
  *
  * What a reader keeps are numbers and bytes of the caller's, in which any bits are allowed: numbers of no reader are
  * answered by QREXEC_REFUSED. Nothing is allocated, no pointer is kept, and no function is called but memcpy,
@@ -62,6 +62,7 @@ enum qrexec_answer {
 	QREXEC_REFUSED = 3, /* the numbers are those of no reader, or the call isn't allowed now */
 	QREXEC_NEXT = 4, /* this message is for qrexec_next */
 	QREXEC_TOO_MANY = 5, /* the body has fewer bytes left */
+	QREXEC_OVER = 6, /* the caller's session has read the exit code */
 };
 
 /* A reader of a channel's messages. */
@@ -157,6 +158,117 @@ size_t qrexec_put_trigger3(uint8_t *out, size_t room, const uint8_t *target, siz
 			   size_t ident_len, const uint8_t *service, size_t service_len);
 size_t qrexec_put_trigger(uint8_t *out, size_t room, const uint8_t *target, size_t target_len, const uint8_t *ident,
 			  size_t ident_len, const uint8_t *service, size_t service_len);
+
+/* ---- one side of a call, on a data channel */
+
+/* The one that makes the call sends the input, and the one that serves it both outputs and the exit code. */
+enum qrexec_side { QREXEC_CALLER = 0, QREXEC_SERVING = 1 };
+
+/* What is wrong with the messages of the other side. */
+enum qrexec_session_fault {
+	QREXEC_WRONG_SIDE = 1, /* it may not send such a message after its greeting */
+	QREXEC_AFTER_END = 2, /* the message's stream had ended */
+	QREXEC_NOT_HELLO = 3, /* its first message is no greeting */
+	QREXEC_LOW_VERSION = 4, /* its version is below 2 */
+};
+
+struct qrexec_session {
+	struct qrexec_reader reader; /* of what comes; with a fault it stands at that message, whose type is reader.kind */
+	uint32_t side; /* enum qrexec_side */
+	uint32_t own; /* the version of its own greeting */
+	uint32_t version; /* that both go on with, or 0 before the other greeting; with QREXEC_LOW_VERSION that one's */
+	uint32_t greeted; /* 1 if its own greeting has gone */
+	uint32_t stdin_ended, stdout_ended, stderr_ended; /* 1 if the stream has ended */
+	uint32_t exited; /* 1 if the exit code has come, or has gone */
+	int32_t code; /* the exit code that has come */
+	uint32_t fault; /* enum qrexec_session_fault, or 0; a fault of the bytes is reader.fault */
+};
+
+/* Makes a side of a call, of version 2 or 3. Returns false, and changes nothing, if a number is another. */
+bool qrexec_session_init(struct qrexec_session *session, uint32_t side, uint32_t version) QREXEC_NONNULL(1);
+
+/* Finds the message at the front of these bytes, as qrexec_next does, and takes it if the other side may send it.
+ * Returns QREXEC_LESS, QREXEC_FOUND, QREXEC_FAULTY, QREXEC_REFUSED or QREXEC_OVER. Nothing changes but at QREXEC_FOUND
+ * and at a new fault. */
+uint32_t qrexec_session_next(struct qrexec_session *session, const uint8_t *bytes, size_t len, struct qrexec_found *found)
+	QREXEC_NONNULL(1, 4);
+
+/* Whether the side may send a message of this type, whose body has `len` bytes, next. Its greeting comes first, and of
+ * the side that serves only after the caller's; all else comes after both greetings. A body has at most 4,096 bytes in
+ * version 2 and 65,536 in version 3. A message without bytes ends its stream; the exit code comes after the ends of
+ * both outputs. Nothing may be sent after a fault. */
+bool qrexec_session_may_send(const struct qrexec_session *session, uint32_t kind, uint32_t len) QREXEC_NONNULL(1);
+
+/* Takes a message that is to be sent. Returns false, and changes nothing, if it may not be sent. */
+bool qrexec_session_sent(struct qrexec_session *session, uint32_t kind, uint32_t len) QREXEC_NONNULL(1);
+
+/* ---- a broker's decision on a call between two domains */
+
+/* The calls from one domain to another. A new one has 0 in all. A call that has ended is taken out of `live` by the
+ * caller, and the others keep their order. */
+struct qrexec_pair {
+	uint32_t live[16]; /* the ports of the live calls, the oldest first */
+	uint32_t live_count; /* how many there are */
+	uint32_t calls; /* how many were accepted, at most 65,536 */
+};
+
+enum qrexec_decision {
+	QREXEC_NO_PAIR = 0, /* the numbers are those of no pair */
+	QREXEC_ACCEPTED = 1, /* the call has the port that is told */
+	QREXEC_TARGET_DROPPED = 2, /* the target was dropped */
+	QREXEC_PAIR_FULL = 3, /* as many calls as may be are live, which is told */
+	QREXEC_PORTS_SPENT = 4, /* each page had its call; the port that would come next is told */
+};
+
+/* Decides on a call from a domain, by its number, to another one, of a service that there is, and enters it if it is
+ * accepted. `pages` is how many calls the pair can have in all, and `dropped` isn't 0 if the target was dropped. Returns
+ * enum qrexec_decision, the first cause that applies. */
+uint32_t qrexec_pair_call(struct qrexec_pair *pair, uint32_t from, uint32_t to, uint32_t pages, uint32_t dropped,
+			  uint32_t *told) QREXEC_NONNULL(1, 6);
+
+/* ---- a call over a vchan: c/qrexec.c, which is not proved */
+
+/* The length of the longest message of a data channel. */
+#define QREXEC_MESSAGE 65544
+
+struct vchan_page;
+
+/* One side of a call, and the messages that it gets and sends. */
+struct qrexec_call {
+	struct qrexec_session session;
+	struct vchan_page *page;
+	size_t in_at, in_len, out_at, out_len; /* of `out` the bytes from out_at on wait to be sent */
+	uint8_t in[QREXEC_MESSAGE], out[QREXEC_MESSAGE];
+};
+
+/*
+ * These calls wait by the wait_for_event of the page's setup; if that is NULL, none waits. They return -1 with errno
+ *   EPROTO     the session holds a fault, which session.fault or session.reader.fault tells
+ *   EPERM      the session may not send that now
+ *   ESHUTDOWN  the exit code has been read
+ * or that of the page's calls: EPIPE if the other side has closed.
+ */
+
+/* Opens a side of a call on an open end of a page. A caller sends its greeting, and the side that serves answers the
+ * one that it reads. Also -1 with EINVAL if there is no such side or version. */
+int qrexec_call_open(struct qrexec_call *call, struct vchan_page *page, uint32_t side, uint32_t version)
+	QREXEC_NONNULL(1, 2);
+
+/* Finds the next message, and sends what waits if none has come. Returns 1 if `found` tells it: its body, `found->len`
+ * bytes, lies at `*body` until the next call. Returns 0 if none has come, and no call waits. */
+int qrexec_call_read(struct qrexec_call *call, struct qrexec_found *found, const uint8_t **body) QREXEC_NONNULL(1, 2, 3);
+
+/* Sends bytes of a stream, in messages of at most as many bytes as the version has; a count of 0 ends the stream. Of
+ * QREXEC_EXIT_CODE the bytes are an int32_t. It first reads the other side's greeting, if that wasn't read. Returns how
+ * many bytes were taken: all of them if calls wait, else those of one message at most, and -1 with EAGAIN if what was
+ * taken before hasn't gone yet. */
+int qrexec_call_write(struct qrexec_call *call, uint32_t kind, const void *bytes, size_t len) QREXEC_NONNULL(1);
+
+/* Sends what was taken. Returns 1 if all has gone, and 0 if there is no room now, and no call waits. */
+int qrexec_call_flush(struct qrexec_call *call) QREXEC_NONNULL(1);
+
+/* Sends what waits, and closes the page's end. Returns 0, or -1. */
+int qrexec_call_close(struct qrexec_call *call) QREXEC_NONNULL(1);
 
 #ifdef __cplusplus
 }

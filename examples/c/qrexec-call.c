@@ -1,7 +1,7 @@
 /*
  * A call between two processes, by the messages of qrexec over a vchan:
  *
- *     cc -o qrexec-call qrexec-call.c libqrexec_c.a $(pkg-config --cflags --libs vchan)
+ *     cc -o qrexec-call qrexec-call.c $(pkg-config --cflags --libs qrexec vchan)
  *     ./qrexec-call [--at SOCKET] --serve COMMAND [WORD..]     serves one call after another by this command
  *     ./qrexec-call [--at SOCKET] <INPUT                       makes a call: input, both outputs and exit code pass through
  *     ./qrexec-call [--at SOCKET] --record FILE <INPUT         also writes what it got: xxd -p FILE | vchan decode data
@@ -9,7 +9,7 @@
  * The server hands a page in a memfd and two eventfds to each client, by a socket that both then keep open: its end
  * tells that the other process is gone, as Xen would. On the page go the messages of a data channel: the caller's
  * greeting and its input, then the server's greeting, the command's outputs and its exit code; the end of a stream is
- * a message without bytes. The library finds and writes the messages; which may come when is checked here.
+ * a message without bytes. The proved library finds and writes the messages, and says which may come and go.
  */
 #define _GNU_SOURCE
 #include <qrexec.h>
@@ -42,18 +42,15 @@ struct side {
 	struct vchan_page end;
 	struct vchan_front *front;
 	int socket, own, peer; /* the peer's process; the eventfd that wakes this side, and that of the peer */
-	struct qrexec_reader reader;
-	uint32_t version; /* that both go on with, or 0 before the peer's greeting */
-	bool greeted;
+	struct qrexec_call call;
 	int from[2]; /* what this side sends: of a caller its input, else the command's outputs */
 	int to[2]; /* what it gets: of a caller the outputs, else the command's input */
-	bool ended[2]; /* the stream that it gets has ended */
 	pid_t command;
 	bool is_over;
 	int32_t code;
-	/* What has come and isn't read, the body of a message that is written out, and what is to be sent. */
-	uint8_t in[HEADER + MOST], out[2 * HEADER + MOST];
-	size_t in_at, in_len, body_at, body_len, out_at, out_len;
+	/* The body of a message that is written out. */
+	const uint8_t *body;
+	size_t body_len;
 	int body_to;
 };
 
@@ -71,120 +68,97 @@ static int fail(struct side *side, const char *what)
 	return 0;
 }
 
-/* The first message is a greeting, whose version is at least 2. Then a caller gets outputs and an exit code, and a
- * server input; nothing comes behind a stream's end. */
-static int heard(struct side *side, const struct qrexec_found *found)
+static int fail_at(struct side *side)
 {
-	int stream = found->kind == QREXEC_STDERR;
+	static const char *const what[] = {"", "may not send such a message", "sends behind a stream's end", "doesn't greet", "has a version below 2"};
+	const struct qrexec_session *session = &side->call.session;
 
-	if (!side->version) {
-		if (found->kind != QREXEC_HELLO || found->first < 2)
-			return fail(side, "the other side doesn't greet");
-		side->version = found->first < VERSION ? found->first : VERSION;
-		return 0;
-	}
-	if (!side->serves && found->kind == QREXEC_EXIT_CODE) {
-		side->is_over = true, side->code = (int32_t)found->first;
-		return 0;
-	}
-	if (side->serves ? found->kind != QREXEC_STDIN : found->kind != QREXEC_STDOUT && found->kind != QREXEC_STDERR)
-		return fail(side, "the other side may not send such a message");
-	if (side->ended[stream])
-		return fail(side, "a message behind its stream's end");
-	if (found->len) {
-		side->body_at = side->in_at + HEADER, side->body_len = found->len, side->body_to = side->to[stream];
-		return 0;
-	}
-	side->ended[stream] = true;
-	if (side->serves && side->to[0] != NONE)
-		close(side->to[0]), side->to[0] = NONE; /* the command's input */
+	if (errno == EPIPE)
+		return fail(side, "the other side is gone");
+	if (errno != EPROTO)
+		return fail(side, strerror(errno));
+	fprintf(stderr, "qrexec-call: byte %llu: the other side %s\n", (unsigned long long)session->reader.at,
+		session->fault ? what[session->fault] : "sends no message of a data channel");
+	side->is_over = true, side->code = 255;
 	return 0;
 }
 
-/* Takes what has come, and reads the messages that are whole, up to one whose body has to be written out first. */
+/* Reads the messages that have come, up to one whose body has to be written out first. */
 static bool get(struct side *side)
 {
 	struct qrexec_found found;
 	bool moved = false;
-	int got;
+	int got = 0;
 
-	while (!side->is_over && !side->body_len) {
-		switch (qrexec_next(&side->reader, side->in + side->in_at, side->in_len - side->in_at, &found)) {
-		case QREXEC_FOUND:
-			heard(side, &found);
-			side->in_at += HEADER + found.len, moved = true;
-			continue;
-		case QREXEC_LESS:
-			break;
-		default:
-			fprintf(stderr, "qrexec-call: byte %llu: ", (unsigned long long)side->reader.at);
-			return fail(side, "this is no message of a data channel");
-		}
-		memmove(side->in, side->in + side->in_at, side->in_len - side->in_at);
-		side->in_len -= side->in_at, side->in_at = 0;
-		got = vchan_page_drain(&side->end, side->in + side->in_len, sizeof side->in - side->in_len);
-		if (got < 0)
-			return fail(side, errno == EPIPE ? "the other side is gone" : strerror(errno));
-		if (!got)
-			return moved;
-		if (record != NONE && write(record, side->in + side->in_len, (size_t)got) != got)
+	while (!side->is_over && !side->body_len && (got = qrexec_call_read(&side->call, &found, &side->body)) == 1) {
+		int stream = found.kind == QREXEC_STDERR;
+
+		moved = true;
+		if (record != NONE && write(record, side->body - HEADER, HEADER + found.len) != (ssize_t)(HEADER + found.len))
 			err(1, "the record");
-		side->in_len += (size_t)got, moved = true;
+		if (found.kind == QREXEC_EXIT_CODE)
+			side->is_over = true, side->code = side->call.session.code;
+		else if (found.kind != QREXEC_HELLO && found.len)
+			side->body_len = found.len, side->body_to = side->to[stream];
+		else if (found.kind == QREXEC_STDIN && side->to[0] != NONE)
+			close(side->to[0]), side->to[0] = NONE; /* the end of the command's input */
 	}
-	return moved;
+	return got < 0 ? fail_at(side) : moved;
 }
 
 /* Writes a part of a body where it goes, which poll said takes some; of a command that reads no more it is dropped. */
 static void write_body(struct side *side)
 {
 	size_t most = side->body_len < 4096 ? side->body_len : 4096; /* no more than a pipe surely takes */
-	ssize_t wrote = side->body_to == NONE ? (ssize_t)most : write(side->body_to, side->in + side->body_at, most);
+	ssize_t wrote = side->body_to == NONE ? (ssize_t)most : write(side->body_to, side->body, most);
 
 	if (wrote < 0 && errno != EPIPE)
 		fail(side, strerror(errno));
 	if (wrote < 0 && side->serves && side->to[0] != NONE)
 		close(side->to[0]), side->to[0] = side->body_to = NONE;
-	side->body_at += wrote < 0 ? most : (size_t)wrote, side->body_len -= wrote < 0 ? most : (size_t)wrote;
+	side->body += wrote < 0 ? most : (size_t)wrote, side->body_len -= wrote < 0 ? most : (size_t)wrote;
 }
+
+/* Whether all that was taken has gone. */
+static bool has_gone(const struct side *side) { return side->call.out_at == side->call.out_len; }
 
 /* Sends what waits. A caller whose peer reads no more still gets what that one sent. */
 static bool send_on(struct side *side)
 {
-	int wrote;
+	size_t before = side->call.out_at;
 
-	if (side->out_at == side->out_len)
-		return false;
-	wrote = vchan_page_write(&side->end, side->out + side->out_at, side->out_len - side->out_at);
-	if (wrote < 0 && errno == EPIPE)
-		wrote = (int)(side->out_len - side->out_at);
-	else if (wrote < 0)
-		return fail(side, strerror(errno));
-	side->out_at += (size_t)wrote;
-	return wrote;
+	if (qrexec_call_flush(&side->call) < 0) {
+		if (errno != EPIPE)
+			return fail_at(side);
+		side->call.out_at = side->call.out_len;
+	}
+	return side->call.out_at != before;
 }
 
-/* Lays a message of the bytes that can be read now, or of the stream's end. */
+/* Sends the bytes that can be read now, or the stream's end. */
 static void read_from(struct side *side, int stream)
 {
 	static uint8_t bytes[MOST];
-	ssize_t count = read(side->from[stream], bytes, side->version < 3 ? 4096 : MOST);
-	size_t room = sizeof side->out;
+	ssize_t count = read(side->from[stream], bytes, side->call.session.version < 3 ? 4096 : MOST);
+	uint32_t kind = !side->serves ? QREXEC_STDIN : stream ? QREXEC_STDERR : QREXEC_STDOUT;
 
 	if (count < 0)
 		return (void)fail(side, strerror(errno));
 	if (!count)
 		close(side->from[stream]), side->from[stream] = NONE;
-	side->out_at = 0;
-	side->out_len = !side->serves ? qrexec_put_stdin(side->out, room, bytes, (size_t)count) :
-			stream ? qrexec_put_stderr(side->out, room, bytes, (size_t)count) :
-				 qrexec_put_stdout(side->out, room, bytes, (size_t)count);
-	if (side->serves && side->from[0] == NONE && side->from[1] == NONE) {
-		int status;
+	if (qrexec_call_write(&side->call, kind, bytes, (size_t)count) < 0 && errno != EPIPE)
+		fail_at(side);
+}
 
-		waitpid(side->command, &status, 0), side->command = 0;
-		side->code = WIFEXITED(status) ? WEXITSTATUS(status) : 128 + WTERMSIG(status);
-		side->out_len += qrexec_put_exit_code(side->out + side->out_len, room - side->out_len, side->code);
-	}
+/* Sends the exit code after both outputs. */
+static void send_code(struct side *side)
+{
+	int status;
+
+	waitpid(side->command, &status, 0), side->command = 0;
+	side->code = WIFEXITED(status) ? WEXITSTATUS(status) : 128 + WTERMSIG(status);
+	if (qrexec_call_write(&side->call, QREXEC_EXIT_CODE, &side->code, sizeof side->code) < 0 && errno != EPIPE)
+		fail_at(side);
 }
 
 /* Moves what can be moved, until the call is over: of a caller with the exit code, else when that has gone. */
@@ -193,19 +167,15 @@ static void carry(struct side *side)
 	uint64_t signals;
 
 	while (!side->is_over) {
-		bool can_read = side->version && side->out_at == side->out_len;
-		struct pollfd wait[] = {
-			{side->own, POLLIN, 0}, {side->socket, POLLIN, 0}, {side->body_len ? side->body_to : NONE, POLLOUT, 0},
-			{can_read ? side->from[0] : NONE, POLLIN, 0}, {can_read ? side->from[1] : NONE, POLLIN, 0},
-		};
+		struct pollfd wait[5];
+		bool can_read;
 
-		if (!side->greeted && (side->version || !side->serves)) {
-			side->greeted = true, side->out_at = 0;
-			side->out_len = qrexec_put_hello(side->out, sizeof side->out, VERSION);
-		}
-		if (side->serves && !side->command && side->out_at == side->out_len) {
-			side->is_over = true; /* the exit code has gone */
-			break;
+		if (side->serves && side->from[0] == NONE && side->from[1] == NONE && has_gone(side)) {
+			if (!side->command) {
+				side->is_over = true; /* the exit code has gone */
+				break;
+			}
+			send_code(side);
 		}
 		if (get(side) | send_on(side))
 			continue;
@@ -215,7 +185,11 @@ static void carry(struct side *side)
 			write_body(side);
 			continue;
 		}
-		wait[2].fd = side->body_len ? side->body_to : NONE;
+		can_read = side->call.session.version && has_gone(side);
+		wait[0] = (struct pollfd){side->own, POLLIN, 0}, wait[1] = (struct pollfd){side->socket, POLLIN, 0};
+		wait[2] = (struct pollfd){side->body_len ? side->body_to : NONE, POLLOUT, 0};
+		for (int stream = 0; stream < 2; stream++)
+			wait[3 + stream] = (struct pollfd){can_read ? side->from[stream] : NONE, POLLIN, 0};
 		if (poll(wait, 5, -1) < 0)
 			err(1, "poll");
 		if (wait[0].revents && read(side->own, &signals, sizeof signals) < 0)
@@ -228,7 +202,7 @@ static void carry(struct side *side)
 		if (wait[2].revents)
 			write_body(side);
 		for (int stream = 0; stream < 2; stream++)
-			if (wait[3 + stream].revents && side->out_at == side->out_len && side->from[stream] != NONE)
+			if (wait[3 + stream].revents && has_gone(side) && side->from[stream] != NONE)
 				read_from(side, stream);
 	}
 }
@@ -253,8 +227,8 @@ static void open_end(struct side *side, char *memory, const struct vchan_places 
 	};
 
 	side->front = with.front;
-	if (!qrexec_reader_init(&side->reader, QREXEC_DATA) || vchan_page_open(&side->end, &with) ||
-	    (!side->serves && vchan_page_connect(&side->end)))
+	if (vchan_page_open(&side->end, &with) || (!side->serves && vchan_page_connect(&side->end)) ||
+	    qrexec_call_open(&side->call, &side->end, side->serves ? QREXEC_SERVING : QREXEC_CALLER, VERSION))
 		err(1, "the page");
 }
 

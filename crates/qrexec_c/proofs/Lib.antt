@@ -3,3 +3,7 @@ pub mod Streams
 pub mod PassLaws
 pub mod GatherLaws
 pub mod PutLaws
+pub mod SessionLaws
+pub mod SentLaws
+pub mod HearsLaws
+pub mod PairLaws

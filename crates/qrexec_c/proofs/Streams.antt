@@ -57,7 +57,7 @@ next_message channel bytes old new found sound next stream given s =
     }
 
 -- a reader made with a fault holds it
-holds : (channel : ℕ) (f : FrameFault) → fault_of (fault_in channel f).fault (fault_in channel f).at (fault_in channel f).kind (fault_in channel f).len ≡ Some f
+pub holds : (channel : ℕ) (f : FrameFault) → fault_of (fault_in channel f).fault (fault_in channel f).at (fault_in channel f).kind (fault_in channel f).len ≡ Some f
 holds channel (frame.UnknownType at kind) = refl
 holds channel (frame.TooLong at kind len) = refl
 holds channel (frame.BadLength at kind len) = refl
@@ -101,7 +101,7 @@ fault_reads channel bytes old new sound bad stream given s =
     again g n = refl
 
 -- a number of a fault tells one
-some_fault : (n at kind len : ℕ) → n ≢ 0 → n ≤ 4 → (f : FrameFault) × (fault_of n at kind len ≡ Some f)
+pub some_fault : (n at kind len : ℕ) → n ≢ 0 → n ≤ 4 → (f : FrameFault) × (fault_of n at kind len ≡ Some f)
 some_fault zero at kind len some few = absurd (some refl)
 some_fault (suc zero) at kind len some few = (frame.UnknownType at kind, refl)
 some_fault (suc (suc zero)) at kind len some few = (frame.TooLong at kind len, refl)

@@ -42,6 +42,7 @@ pub extern "C" fn qrexec_head(passing: &mut Passing, header: &[u8]) -> u32
         IsFault channel header.now passing.old.reader passing.new.reader }
     ensures faulted { passing.old.reader.fault ≢ 0 → (passing.new ≡ passing.old) × ((result ≡ 2) ⊎ (result ≡ 3)) }
     ensures none { result ≡ 3 ↔ IsNoReader passing.old.reader ⊎ ((passing.old.reader.fault ≡ 0) × (passing.old.under ≢ 0)) }
+    ensures others { result ≡ 2 → passing.new ≡ record passing.old { reader = passing.new.reader } }
     ensures refused { result ≡ 3 → passing.new ≡ passing.old }
     ensures less { result ≡ 0 → (passing.new ≡ passing.old) × (length header.now < 8) }
     ensures stream_fault { result ≡ 2 → passing.old.reader.fault ≡ 0 → (channel : Channel) → channel_of passing.old.reader.channel ≡ Some channel →

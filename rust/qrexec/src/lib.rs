@@ -1,7 +1,8 @@
 //! The messages of qrexec, the service calls of Qubes OS, read and written by the proved library crates/qrexec_c.
 //!
-//! Which bytes are a message, which fault a stream has and at which offset, and what is written, is proved. This crate
-//! gives the library's answers types, and is only tested. Its `unsafe` is for the library's functions.
+//! Which bytes are a message, which fault a stream has and at which offset, what is written, and what each side of a
+//! call may send, is proved. This crate gives the library's answers types, and is only tested. Its `unsafe` is for the
+//! library's functions.
 //!
 //! ```
 //! use qrexec_messages::{Channel, Message, Messages};
@@ -19,7 +20,10 @@
 //! ```
 use std::fmt;
 
+mod call;
 mod library;
+
+pub use call::{Call, CallError, SessionFault, Side, Version};
 
 /// The two kinds of channel that carry qrexec messages.
 #[derive(Clone, Copy, Debug, PartialEq, Eq)]
@@ -162,19 +166,23 @@ impl Reader {
     }
 
     fn fault(&self) -> Fault {
-        let library::Reader {
-            at,
-            kind,
-            len,
-            fault,
-            ..
-        } = self.0;
-        match fault {
-            1 => Fault::UnknownType { at, kind },
-            2 => Fault::TooLong { at, kind, len },
-            3 => Fault::BadLength { at, kind, len },
-            _ => Fault::NoNul { at, kind },
-        }
+        fault_of(&self.0)
+    }
+}
+
+fn fault_of(reader: &library::Reader) -> Fault {
+    let library::Reader {
+        at,
+        kind,
+        len,
+        fault,
+        ..
+    } = *reader;
+    match fault {
+        1 => Fault::UnknownType { at, kind },
+        2 => Fault::TooLong { at, kind, len },
+        3 => Fault::BadLength { at, kind, len },
+        _ => Fault::NoNul { at, kind },
     }
 }
 

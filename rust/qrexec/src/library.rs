@@ -39,7 +39,23 @@ pub struct Found {
     pub text: Span,
 }
 
-const _: () = assert!(size_of::<Reader>() == 24 && size_of::<Found>() == 40);
+/// The numbers of a side of a call.
+#[repr(C)]
+#[derive(Clone, Copy, Debug, Default, PartialEq, Eq)]
+pub struct Session {
+    pub reader: Reader,
+    pub side: u32,
+    pub own: u32,
+    pub version: u32,
+    greeted: u32,
+    ended: [u32; 3],
+    exited: u32,
+    code: i32,
+    pub fault: u32,
+}
+
+const _: () =
+    assert!(size_of::<Reader>() == 24 && size_of::<Found>() == 40 && size_of::<Session>() == 64);
 
 /// A slice as C takes it: a pointer and a length. The pointer of an empty one is never read.
 type Bytes = *const u8;
@@ -47,6 +63,14 @@ type Bytes = *const u8;
 #[link(name = "qrexec_c", kind = "static")]
 unsafe extern "C" {
     fn qrexec_next(reader: &mut Reader, bytes: Bytes, len: usize, found: &mut Found) -> u32;
+    fn qrexec_session_init(session: &mut Session, side: u32, version: u32) -> bool;
+    fn qrexec_session_next(
+        session: &mut Session,
+        bytes: Bytes,
+        len: usize,
+        found: &mut Found,
+    ) -> u32;
+    fn qrexec_session_sent(session: &mut Session, kind: u32, len: u32) -> bool;
     fn qrexec_put_hello(out: *mut u8, room: usize, version: u32) -> usize;
     fn qrexec_put_stdin(out: *mut u8, room: usize, bytes: Bytes, len: usize) -> usize;
     fn qrexec_put_stdout(out: *mut u8, room: usize, bytes: Bytes, len: usize) -> usize;
@@ -105,6 +129,20 @@ unsafe extern "C" {
 
 pub fn next(reader: &mut Reader, bytes: &[u8], found: &mut Found) -> u32 {
     unsafe { qrexec_next(reader, bytes.as_ptr(), bytes.len(), found) }
+}
+
+pub fn session(side: u32, version: u32) -> Session {
+    let mut session = Session::default();
+    unsafe { qrexec_session_init(&mut session, side, version) };
+    session
+}
+
+pub fn session_next(session: &mut Session, bytes: &[u8], found: &mut Found) -> u32 {
+    unsafe { qrexec_session_next(session, bytes.as_ptr(), bytes.len(), found) }
+}
+
+pub fn session_sent(session: &mut Session, kind: u32, len: u32) -> bool {
+    unsafe { qrexec_session_sent(session, kind, len) }
 }
 
 pub fn put(out: &mut [u8], message: &crate::Message) -> usize {
