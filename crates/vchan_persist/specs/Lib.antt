@@ -1,6 +1,7 @@
 pub mod Clients
 pub mod Reading
 pub mod Epochs
-pub mod Given
+pub mod States
 pub mod Owes
+pub mod Tasks
 pub mod Settling

@@ -85,9 +85,9 @@ ClientHands page (Call stdin) done = CallerHands page stdin done
 ClientHands page (Hostile seed stores) done = ScribblerHands page seed stores done
 
 abbrev pub epoch_owes : EpochTask → SideDone → Type 0
-epoch_owes (Calls given) done = CallerHands given.page given.stdin done
-epoch_owes (Scribbles given) done = ScribblerHands given.page given.seed given.stores done
-epoch_owes (Serves given) done = ServerHands given.page given.service done
+epoch_owes (Calls s) done = CallerHands s.end.page s.caller.requests.input done
+epoch_owes (Scribbles s) done = ScribblerHands s.page s.seed s.stores done
+epoch_owes (Serves s) done = ServerHands s.session.end.page s.service done
 epoch_owes (Over was) done = done ≡ was
 
 -- the task owes this

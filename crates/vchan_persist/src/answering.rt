@@ -21,11 +21,11 @@ impl<'p> Model for Answering<'p> {
     ghost use Rattle.ring_words.specs.declared.page.Role.TheVariants.{Server};
     ghost use Rattle.service_gate.specs.Owing.{builtin_owes};
     ghost use Rattle.channel_session.specs.Answering.{IsAnswering, IsAtWork};
-    ghost use Rattle.vchan_persist.specs.Given.{AnsweringGiven};
+    ghost use Rattle.vchan_persist.specs.States.{AnsweringState};
 
-    ghost Value = { AnsweringGiven };
+    ghost Value = { AnsweringState };
 
-    ghost view = { λ a. record { page = a.session.end.page; service = a.service.value } };
+    ghost view = { λ a. record { session = a.session; service = a.service.value } };
 
     ghost invariant = { λ a. IsAtWork a.session.serving a.session.end × IsAnswering (builtin_owes a.service.value) a.session.serving a.session.end × (a.session.serving.answering.outcome ≡ None) × (a.session.serving.answering.own ≡ 3) × (a.session.end.side.role ≡ Server) × (0 < length a.room.items) };
 }
@@ -37,6 +37,7 @@ impl<'p> Answering<'p> {
     ghost use Rattle.service_gate.specs.Owing.{builtin_owes};
     ghost use Rattle.channel_session.specs.Answering.{IsAnswering, IsAtWork};
     ghost use Rattle.vchan_persist.specs.Owes.{epoch_owes};
+    ghost use Rattle.vchan_persist.specs.Tasks.{EpochTurns};
 
     /// Returns the task of such a session with this service, and with some room.
     pub(crate) fn new(session: ServingSession<'p>, service: Builtin, room: Vec<u8>) -> Answering<'p>
@@ -46,7 +47,7 @@ impl<'p> Answering<'p> {
         requires own { session.serving.answering.own ≡ 3 }
         requires server { session.end.side.role ≡ Server }
         requires some { 0 < length room.items }
-        ensures { result ≡ record { page = session.entry.end.page; service = service } }
+        ensures { result ≡ record { session = session.entry; service = service } }
     {
         Answering {
             session,
@@ -63,7 +64,8 @@ impl<'p> Answering<'p> {
     /// Makes a turn of the session. After the call is over, or if memory runs out, its end is
     /// retired.
     pub(crate) fn turn(self) -> Turn<EpochTask<'p>>
-        ensures { Pays epoch_owes (EpochTask.Serves self.entry) result }
+        ensures pays { Pays epoch_owes (EpochTask.Serves self.entry) result }
+        ensures turns { EpochTurns (EpochTask.Serves self.entry) result }
     {
         let Answering {
             mut session,

@@ -15,12 +15,11 @@ pub(crate) struct Calling<'p> {
 impl<'p> Model for Calling<'p> {
     ghost use Rattle.std.specs.Prelude.{◌≡◌, ◌<◌, None, length};
     ghost use Rattle.ring_words.specs.declared.page.Role.TheVariants.{Client};
-    ghost use Rattle.channel_session.specs.Calling.{IsCalling};
-    ghost use Rattle.vchan_persist.specs.Given.{CallingGiven};
+    ghost use Rattle.channel_session.specs.Calling.{CallerAt, IsCalling};
 
-    ghost Value = { CallingGiven };
+    ghost Value = { CallerAt };
 
-    ghost view = { λ c. record { page = c.session.end.page; stdin = c.session.caller.requests.input } };
+    ghost view = { λ c. c.session };
 
     ghost invariant = { λ c. IsCalling c.session.caller c.session.end × (c.session.caller.replies.outcome ≡ None) × (c.session.caller.replies.own ≡ 3) × (c.session.end.side.role ≡ Client) × (0 < length c.room.items) };
 }
@@ -31,6 +30,7 @@ impl<'p> Calling<'p> {
     ghost use Rattle.task_pool.specs.Owes.{Pays};
     ghost use Rattle.channel_session.specs.Calling.{IsCalling};
     ghost use Rattle.vchan_persist.specs.Owes.{epoch_owes};
+    ghost use Rattle.vchan_persist.specs.Tasks.{EpochTurns};
 
     /// Returns the task of such a session, with some room.
     pub(crate) fn new(session: CallerSession<'p>, room: Vec<u8>) -> Calling<'p>
@@ -39,7 +39,7 @@ impl<'p> Calling<'p> {
         requires own { session.caller.replies.own ≡ 3 }
         requires client { session.end.side.role ≡ Client }
         requires some { 0 < length room.items }
-        ensures { result ≡ record { page = session.entry.end.page; stdin = session.entry.caller.requests.input } }
+        ensures { result ≡ session.entry }
     {
         Calling { session, room }
     }
@@ -52,7 +52,8 @@ impl<'p> Calling<'p> {
     /// Makes a turn of the session. After its call is over, or if memory runs out, its end is
     /// retired.
     pub(crate) fn turn(self) -> Turn<EpochTask<'p>>
-        ensures { Pays epoch_owes (EpochTask.Calls self.entry) result }
+        ensures pays { Pays epoch_owes (EpochTask.Calls self.entry) result }
+        ensures turns { EpochTurns (EpochTask.Calls self.entry) result }
     {
         let Calling {
             mut session,

@@ -22,9 +22,9 @@ pub(crate) struct Scribbling<'p> {
 impl<'p> Model for Scribbling<'p> {
     ghost use Rattle.std.specs.Prelude.{◌≡◌, ◌≤◌, []};
     ghost use Rattle.ring_words.specs.declared.page.Role.TheVariants.{Client};
-    ghost use Rattle.vchan_persist.specs.Given.{ScribblingGiven};
+    ghost use Rattle.vchan_persist.specs.States.{ScribblingState};
 
-    ghost Value = { ScribblingGiven };
+    ghost Value = { ScribblingState };
 
     ghost view = { λ s. record { page = s.end.page; seed = s.seed; stores = s.stores } };
 
@@ -36,6 +36,7 @@ impl<'p> Scribbling<'p> {
     ghost use Rattle.ring_words.specs.declared.page.Role.TheVariants.{Client};
     ghost use Rattle.task_pool.specs.Owes.{Pays};
     ghost use Rattle.vchan_persist.specs.Owes.{epoch_owes};
+    ghost use Rattle.vchan_persist.specs.Tasks.{EpochTurns};
 
     /// Returns the task of a user who draws this many stores from this seed on. The end has moved
     /// no byte.
@@ -50,7 +51,8 @@ impl<'p> Scribbling<'p> {
 
     /// Gives the end up to its user, who makes all stores and retires it.
     pub(crate) fn turn(self) -> Turn<EpochTask<'p>>
-        ensures { Pays epoch_owes (EpochTask.Scribbles self.entry) result }
+        ensures pays { Pays epoch_owes (EpochTask.Scribbles self.entry) result }
+        ensures turns { EpochTurns (EpochTask.Scribbles self.entry) result }
     {
         let Scribbling { end, seed, stores } = self;
         let mut end = turn(end);

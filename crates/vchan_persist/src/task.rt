@@ -36,12 +36,13 @@ pub(crate) enum SideDone {
 
 impl<'p> PoolTask for EpochTask<'p> {
     ghost use Rattle.vchan_persist.specs.Owes.{epoch_owes};
+    ghost use Rattle.vchan_persist.specs.Tasks.{EpochTurns};
 
     type Done = SideDone;
 
     ghost owes = { epoch_owes };
 
-    ghost turns = { λ _ _. Unit {0} };
+    ghost turns = { EpochTurns };
 
     fn turn(self) -> Turn<Self> {
         match self {

@@ -13,7 +13,7 @@ use Rattle.vchan_relay.specs.declared.task.HopDone.TheVariants.{Wrote, Passed, R
 use Rattle.vchan_relay.specs.declared.task.HopTask.{HopTask}
 use Rattle.vchan_relay.specs.declared.task.HopTask.TheVariants.{Reads}
 use Rattle.vchan_relay.specs.Joints.{JoinedEnds}
-use Rattle.vchan_relay.specs.Given.{ReaderGiven}
+use Rattle.vchan_relay.specs.States.{ReaderState}
 use Rattle.vchan_relay.specs.Laying.{IsLaid, AreLaid}
 use Rattle.vchan_relay.specs.Owes.{Owes, WriterHands, RelayHands, ReaderHands, FollowOn, AreTasks, AreLeft}
 use Rattle.vchan_lifecycle.specs.Ended.{IsEndOf}
@@ -39,10 +39,10 @@ next_task bytes room all before after page pages task tasks longer goes_on is ow
     subst (λ (xs : List HopTask). AreTasks bytes room all xs) (sym (ap (λ (xs : List HopTask). xs ++ more) is ∙ append_assoc tasks (task ∷ []) more))
     (goes_on (task ∷ more) (owes, subst (λ (t : TableId). FollowOn room t pages more) same follow))
 
-pub last_task : (bytes : List ℕ) (room : ℕ) (all : List PageView) (before : TableId) (given : ReaderGiven) (tasks longer : List HopTask) →
-    ((more : List HopTask) → FollowOn room before [] more → AreTasks bytes room all (tasks ++ more)) → longer ≡ tasks ++ Reads given ∷ [] → given ≡ record { page = before; room = room } → AreTasks bytes room all longer
-last_task bytes room all before given tasks longer goes_on is same =
-    subst (λ (xs : List HopTask). AreTasks bytes room all xs) (sym is) (goes_on (Reads given ∷ []) (λ done hands. subst (λ (r : ReaderGiven). ReaderHands r.page r.room done) same hands))
+pub last_task : (bytes : List ℕ) (room : ℕ) (all : List PageView) (before : TableId) (reader : ReaderState) (tasks longer : List HopTask) →
+    ((more : List HopTask) → FollowOn room before [] more → AreTasks bytes room all (tasks ++ more)) → longer ≡ tasks ++ Reads reader ∷ [] → reader.end.page ≡ before → reader.room ≡ room → AreTasks bytes room all longer
+last_task bytes room all before reader tasks longer goes_on is page many =
+    subst (λ (xs : List HopTask). AreTasks bytes room all xs) (sym is) (goes_on (Reads reader ∷ []) (λ done hands. subst (λ (n : ℕ). ReaderHands before n done) many (subst (λ (t : TableId). ReaderHands t reader.room done) page hands)))
 
 -- no page is left if no seat is
 pub none_left : (words : PageStart) (pages : List PageView) → AreLaid words pages [] → pages ≡ []

@@ -3,8 +3,9 @@ pub mod Joints
 pub mod Turns
 pub mod Hops
 pub mod Ended
-pub mod Given
+pub mod States
 pub mod Laying
 pub mod Owes
+pub mod Tasks
 pub mod Settling
 pub mod Runs

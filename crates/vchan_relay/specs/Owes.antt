@@ -40,9 +40,9 @@ ReaderHands page room (Read end got) = IsEndOf page Server end × GetsAll (last_
 -- ---- what is owed
 
 abbrev pub hop_owes : HopTask → HopDone → Type 0
-hop_owes (Writes given) done = WriterHands given.page given.bytes done
-hop_owes (Passes given) done = RelayHands given.near given.far done
-hop_owes (Reads given) done = ReaderHands given.page given.room done
+hop_owes (Writes w) done = WriterHands w.end.page w.bytes done
+hop_owes (Passes r) done = RelayHands r.near.page r.far.page done
+hop_owes (Reads r) done = ReaderHands r.end.page r.room done
 hop_owes (Over was) done = done ≡ was
 
 -- the task owes this

@@ -75,3 +75,8 @@ Leaves (NearGone prod cons) r = (r.held ≡ []) × (prod ≢ cons) × ((view r.n
 Leaves (FarClosed held) r = (length r.held ≡ held) × ((view r.far).saw ≡ true)
 Leaves (Passed count) r = 1 ≤ count
 Leaves _ r = Unit {0}
+
+-- a task's turn is one of the relay, and another one if the first took bytes
+pub data Advances (was now : RelayState) : Type 0 where
+  once : (turn : RelayTurn) → ((count : ℕ) → turn ≢ Took count) → HasTurned was turn now → Advances was now
+  twice : (count : ℕ) (between : RelayState) (turn : RelayTurn) → HasTurned was (Took count) between → HasTurned between turn now → Advances was now

@@ -2,7 +2,7 @@
 ghost use Rattle.std.specs.Prelude.{◌≡◌, false};
 ghost use Rattle.vchan_rule.specs.Ends.{IsSameEnd};
 ghost use Rattle.vchan_relay.specs.Relay.{IsRelay};
-ghost use Rattle.vchan_relay.specs.Turns.{Leaves, ends_relay};
+ghost use Rattle.vchan_relay.specs.Turns.{Advances, Leaves, ends_relay};
 
 use crate::relay::Relay;
 use crate::task::{HopDone, HopTask};
@@ -21,11 +21,11 @@ pub(crate) struct Hop<'p> {
 impl<'p> Model for Hop<'p> {
     ghost use Rattle.std.specs.Prelude.{◌≡◌, false};
     ghost use Rattle.ring_words.specs.declared.page.Role.TheVariants.{Server, Client};
-    ghost use Rattle.vchan_relay.specs.Given.{HopGiven};
+    ghost use Rattle.vchan_relay.specs.Relay.{RelayState};
 
-    ghost Value = { HopGiven };
+    ghost Value = { RelayState };
 
-    ghost view = { λ h. record { near = h.relay.near.page; far = h.relay.far.page } };
+    ghost view = { λ h. h.relay };
 
     ghost invariant = { λ h. (h.relay.ended ≡ false) × (h.relay.near.side.role ≡ Server) × (h.relay.far.side.role ≡ Client) };
 }
@@ -36,6 +36,7 @@ fn advance(relay: &mut Relay<'_>) -> (RelayTurn, bool)
     requires { relay.old.ended ≡ false }
     ensures near { IsSameEnd relay.old.near relay.new.near }
     ensures far { IsSameEnd relay.old.far relay.new.far }
+    ensures advances { Advances relay.old relay.new }
     ensures leaves { Leaves result.0 relay.new }
     ensures ended { relay.new.ended ≡ ends_relay result.0 }
     ensures relay { IsRelay relay.new }
@@ -43,11 +44,13 @@ fn advance(relay: &mut Relay<'_>) -> (RelayTurn, bool)
     let turn = relay.turn();
     match turn {
         RelayTurn::Took { count: _ } => (relay.turn(), true),
-        RelayTurn::NotYet { prod: _, cons: _ } | RelayTurn::Full { prod: _, cons: _ } => {
-            (turn, false)
-        }
-        _ => (turn, true),
+        _ => (turn, moves(turn)),
     }
+}
+
+/// Returns whether a turn with this answer moved bytes, or ended the relay.
+fn moves(turn: RelayTurn) -> bool {
+    !matches!(turn, RelayTurn::NotYet { .. } | RelayTurn::Full { .. })
 }
 
 impl<'p> Hop<'p> {
@@ -55,13 +58,14 @@ impl<'p> Hop<'p> {
     ghost use Rattle.ring_words.specs.declared.page.Role.TheVariants.{Server, Client};
     ghost use Rattle.task_pool.specs.Owes.{Pays};
     ghost use Rattle.vchan_relay.specs.Owes.{hop_owes};
+    ghost use Rattle.vchan_relay.specs.Tasks.{HopTurns};
 
     /// Makes the task of a relay.
     pub(crate) fn new(relay: Relay<'p>) -> Hop<'p>
         requires going { relay.ended ≡ false }
         requires near { relay.near.side.role ≡ Server }
         requires far { relay.far.side.role ≡ Client }
-        ensures { result ≡ record { near = relay.entry.near.page; far = relay.entry.far.page } }
+        ensures { result ≡ relay.entry }
     {
         Hop { relay, moved: true }
     }
@@ -73,7 +77,8 @@ impl<'p> Hop<'p> {
 
     /// Goes on with the relay, and retires both its ends after it has ended.
     pub(crate) fn turn(self) -> Turn<HopTask<'p>>
-        ensures { Pays hop_owes (HopTask.Passes self.entry) result }
+        ensures pays { Pays hop_owes (HopTask.Passes self.entry) result }
+        ensures turns { HopTurns (HopTask.Passes self.entry) result }
     {
         let Hop { mut relay, .. } = self;
         let (_, moved) = advance(&mut relay);

@@ -20,11 +20,11 @@ impl<'p> Model for Reader<'p> {
     ghost use Rattle.std.specs.Prelude.{◌≡◌, ◌<◌, length, take};
     ghost use Rattle.ring_words.specs.declared.page.Role.TheVariants.{Server};
     ghost use Rattle.vchan_rule.specs.Seated.{IsOpen};
-    ghost use Rattle.vchan_relay.specs.Given.{ReaderGiven};
+    ghost use Rattle.vchan_relay.specs.States.{ReaderState};
 
-    ghost Value = { ReaderGiven };
+    ghost Value = { ReaderState };
 
-    ghost view = { λ r. record { page = r.end.page; room = length r.room.items } };
+    ghost view = { λ r. record { end = r.end; room = length r.room.items } };
 
     ghost invariant = { λ r. IsOpen r.end × (r.end.side.role ≡ Server) × (r.count < length r.room.items) × (r.end.side.got ≡ take r.count r.room.items) };
 }
@@ -35,6 +35,7 @@ impl<'p> Reader<'p> {
     ghost use Rattle.task_pool.specs.Owes.{Pays};
     ghost use Rattle.vchan_rule.specs.Seated.{view, IsOpen};
     ghost use Rattle.vchan_relay.specs.Owes.{hop_owes};
+    ghost use Rattle.vchan_relay.specs.Tasks.{HopTurns};
 
     /// Makes a reader that has got nothing, with this room.
     pub(crate) fn new(end: End<'p>, room: Vec<u8>) -> Reader<'p>
@@ -42,7 +43,7 @@ impl<'p> Reader<'p> {
         requires server { end.side.role ≡ Server }
         requires none { (view end).got ≡ [] }
         requires some { 0 < length room.items }
-        ensures { result ≡ record { page = end.entry.page; room = length room.items } }
+        ensures { result ≡ record { end = end.entry; room = length room.items } }
     {
         Reader {
             end,
@@ -59,7 +60,8 @@ impl<'p> Reader<'p> {
 
     /// Gets what waits. It retires when no more comes, or when the room is full.
     pub(crate) fn turn(self) -> Turn<HopTask<'p>>
-        ensures { Pays hop_owes (HopTask.Reads self.entry) result }
+        ensures pays { Pays hop_owes (HopTask.Reads self.entry) result }
+        ensures turns { HopTurns (HopTask.Reads self.entry) result }
     {
         let Reader {
             mut end,

@@ -40,12 +40,13 @@ pub(crate) enum HopDone {
 
 impl<'p> PoolTask for HopTask<'p> {
     ghost use Rattle.vchan_relay.specs.Owes.{hop_owes};
+    ghost use Rattle.vchan_relay.specs.Tasks.{HopTurns};
 
     type Done = HopDone;
 
     ghost owes = { hop_owes };
 
-    ghost turns = { λ _ _. Unit {0} };
+    ghost turns = { HopTurns };
 
     fn turn(self) -> Turn<Self> {
         match self {

@@ -20,11 +20,11 @@ impl<'p> Model for Writer<'p> {
     ghost use Rattle.std.specs.Prelude.{◌≡◌, ◌≤◌, length, take};
     ghost use Rattle.ring_words.specs.declared.page.Role.TheVariants.{Client};
     ghost use Rattle.vchan_rule.specs.Seated.{IsOpen};
-    ghost use Rattle.vchan_relay.specs.Given.{WriterGiven};
+    ghost use Rattle.vchan_relay.specs.States.{WriterState};
 
-    ghost Value = { WriterGiven };
+    ghost Value = { WriterState };
 
-    ghost view = { λ w. record { page = w.end.page; bytes = w.bytes.items } };
+    ghost view = { λ w. record { end = w.end; bytes = w.bytes.items } };
 
     ghost invariant = { λ w. IsOpen w.end × (w.end.side.role ≡ Client) × (w.sent ≤ length w.bytes.items) × (w.end.side.sent ≡ take w.sent w.bytes.items) };
 }
@@ -35,13 +35,14 @@ impl<'p> Writer<'p> {
     ghost use Rattle.task_pool.specs.Owes.{Pays};
     ghost use Rattle.vchan_rule.specs.Seated.{view, IsOpen};
     ghost use Rattle.vchan_relay.specs.Owes.{hop_owes};
+    ghost use Rattle.vchan_relay.specs.Tasks.{HopTurns};
 
     /// Makes a writer that has sent nothing.
     pub(crate) fn new(end: End<'p>, bytes: Vec<u8>) -> Writer<'p>
         requires open { IsOpen end }
         requires client { end.side.role ≡ Client }
         requires none { (view end).sent ≡ [] }
-        ensures { result ≡ record { page = end.entry.page; bytes = bytes.items } }
+        ensures { result ≡ record { end = end.entry; bytes = bytes.items } }
     {
         Writer {
             end,
@@ -58,7 +59,8 @@ impl<'p> Writer<'p> {
 
     /// Sends what has room. It retires after the last byte, or if the reader is shut.
     pub(crate) fn turn(self) -> Turn<HopTask<'p>>
-        ensures { Pays hop_owes (HopTask.Writes self.entry) result }
+        ensures pays { Pays hop_owes (HopTask.Writes self.entry) result }
+        ensures turns { HopTurns (HopTask.Writes self.entry) result }
     {
         let Writer {
             mut end,

@@ -7,6 +7,7 @@ use Rattle.vchan_relay.specs.declared.lay.PageSeats.{PageSeats}
 use Rattle.vchan_relay.specs.declared.task.HopTask.{HopTask}
 use Rattle.vchan_relay.specs.Laying.{AreLaid}
 use Rattle.vchan_relay.specs.Owes.{AreTasks, FollowOn}
+use Rattle.vchan_relay.specs.States.{ReaderState}
 use Rattle.vchan_relay.proofs.RowLaws.{IsNext, is_next, none_left, first_task, next_task, last_task}
 use Rattle.vchan_relay.proofs.deal.deal.Goals.{After-index-pages-index}
 use Rattle.vchan_relay.proofs.deal.deal.Goals as goal
@@ -100,7 +101,6 @@ returns c =
     let none : c.loop-next.next-iterator.rest.items ≡ [] = grind (arith, common_steps, c.in-None.ensures.steps) in
     let over : drop c.loop-next.index pages ≡ [] = none_left left.0 (drop c.loop-next.index pages) (subst (AreLaid left.0 (drop c.loop-next.index pages)) none left.1) in
     let room : length c.in_ok-buffer.buffer.items ≡ length bytes + 1 = omega (arith, c.in_ok-buffer.ensures.len, c.len.ensures, c.args.bytes.ok.0, c.in_ok-buffer.buffer.ok.0) in
-    let given : c.new.result ≡ record { page = before; room = length bytes + 1 } = c.new.ensures ∙ ap (λ (n : ℕ). record { page = before; room = n }) room in
     last_task bytes (length bytes + 1) pages before c.new.result c.loop-next.tasks.items c.push-2.new.self.items
     (λ more follow. c.loop-next.invariant.goes_on more (subst (λ (ps : List PageView). FollowOn (length bytes + 1) before ps more) (sym over) follow))
-    c.in_ok-push-3.ensures.items given
+    c.in_ok-push-3.ensures.items (ap (λ (r : ReaderState). r.end.page) c.new.ensures) (ap (λ (r : ReaderState). r.room) c.new.ensures ∙ room)

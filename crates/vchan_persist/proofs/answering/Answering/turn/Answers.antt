@@ -5,18 +5,19 @@ use Rattle.end_view.specs.EndView.{EndView}
 use Rattle.service_gate.specs.Owing.{builtin_owes}
 use Rattle.task_duties.specs.Agent.Sessions.{ServingOwes}
 use Rattle.vchan_rule.specs.Seated.{last_view}
-use Rattle.vchan_persist.specs.Given.{AnsweringGiven}
+use Rattle.channel_session.specs.Answering.{ServingTurns}
+use Rattle.vchan_persist.specs.States.{AnsweringState}
 use Rattle.vchan_persist.specs.Owes.{HasServed}
 use Rattle.vchan_persist.proofs.answering.Answering.turn.Goals as goal
 
-pub returns-in-Some : goal.returns-in-Some
-returns-in-Some c =
+pub returns-in-Some-clause-pays : goal.returns-in-Some-clause-pays
+returns-in-Some-clause-pays c =
     let inside = c.self.inside in
     let v = c.self.invariant in
     let e = c.in-Ok.ensures in
     let over = c.finish.ensures in
     let owed = builtin_owes inside.service.value in
-    subst (λ (given : AnsweringGiven). HasServed given.page given.service c.finish.result) c.self.view_is (record {
+    subst (λ (s : AnsweringState). HasServed s.session.end.page s.service c.finish.result) c.self.view_is (record {
       is_end = record {
         page_is = ap (λ (end : EndView). end.page) over.end ∙ e.end.0;
         role_is = ap (λ (end : EndView). end.role) over.end ∙ e.end.1 ∙ v.4;
@@ -34,3 +35,11 @@ invariant_of-result c =
     let long : length c.turn.new.buf ≡ length inside.room.items = e.long ∙ ap (λ (xs : List ℕ). length xs) c.as_mut_slice.ensures.value in
     let some : 0 < length c.turn.new.buf = omega (arith, long, v.5) in
     (e.work, e.answering (builtin_owes inside.service.value) v.1, sym c.outcome.ensures ∙ c.in-None.is, e.own ∙ v.3, e.end.1 ∙ v.4, subst (λ (xs : List ℕ). 0 < length xs) (sym (take_at c.turn.new.buf _ inside.room.len (e.long ∙ c.as_mut_slice.ensures.len))) some)
+
+pub returns-in-Some-clause-turns : goal.returns-in-Some-clause-turns
+returns-in-Some-clause-turns c = (
+  c.in-Ok.field-0,
+  c.turn.new.self,
+  subst (λ (s : AnsweringState). ServingTurns c.in-Ok.field-0 s.session c.turn.new.self) c.self.view_is c.in-Ok.ensures.turned,
+  c.finish.ensures.end,
+)

@@ -4,16 +4,16 @@ use Rattle.std.proofs.lemmas.List.{take_at}
 use Rattle.end_view.specs.EndView.{EndView}
 use Rattle.task_duties.specs.Agent.Sessions.{CallerOwes}
 use Rattle.vchan_rule.specs.Seated.{last_view}
-use Rattle.vchan_persist.specs.Given.{CallingGiven}
+use Rattle.channel_session.specs.Calling.{CallerAt, CallerTurns}
 use Rattle.vchan_persist.specs.Owes.{HasCalled}
 use Rattle.vchan_persist.proofs.calling.Calling.turn.Goals as goal
 
-pub returns-in-Some : goal.returns-in-Some
-returns-in-Some c =
+pub returns-in-Some-clause-pays : goal.returns-in-Some-clause-pays
+returns-in-Some-clause-pays c =
     let v = c.self.invariant in
     let e = c.in-Ok.ensures in
     let over = c.finish.ensures in
-    subst (λ (given : CallingGiven). HasCalled given.page given.stdin c.finish.result) c.self.view_is (record {
+    subst (λ (s : CallerAt). HasCalled s.end.page s.caller.requests.input c.finish.result) c.self.view_is (record {
       is_end = record {
         page_is = ap (λ (end : EndView). end.page) over.end ∙ e.end.0;
         role_is = ap (λ (end : EndView). end.role) over.end ∙ e.end.1 ∙ v.3;
@@ -31,3 +31,11 @@ invariant_of-result c =
     let long : length c.turn.new.buf ≡ length inside.room.items = e.long ∙ ap (λ (xs : List ℕ). length xs) c.as_mut_slice.ensures.value in
     let some : 0 < length c.turn.new.buf = omega (arith, long, v.4) in
     (e.calling, sym c.outcome.ensures ∙ c.in-None.is, e.same.own ∙ v.2, e.end.1 ∙ v.3, subst (λ (xs : List ℕ). 0 < length xs) (sym (take_at c.turn.new.buf _ inside.room.len (e.long ∙ c.as_mut_slice.ensures.len))) some)
+
+pub returns-in-Some-clause-turns : goal.returns-in-Some-clause-turns
+returns-in-Some-clause-turns c = (
+  c.in-Ok.field-0,
+  c.turn.new.self,
+  subst (λ (s : CallerAt). CallerTurns c.in-Ok.field-0 s c.turn.new.self) c.self.view_is c.in-Ok.ensures.turned,
+  c.finish.ensures.end,
+)
