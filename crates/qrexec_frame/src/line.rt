@@ -12,10 +12,11 @@ use crate::front::{field_bytes, line_bytes, u32_at};
 use crate::kind::Kind;
 use crate::message::Message;
 use itoa::Buffer;
+use script_words::text::make_room;
 use std::alloc::{AllocError, Global};
 use vchan_io::Memory;
 
-/// The greatest number of bytes that the name, the numbers, the spaces and a `-` of a line take.
+/// The greatest number of bytes that the name, the numbers, the spaces, a `-` and the line feed of a line take.
 const FRAME: usize = 40;
 
 /// Returns the line that a message is printed as, without a line feed: its name, then its numbers,
@@ -154,7 +155,7 @@ fn put_hello(out: &mut Vec<u8>, version: u32) -> Result<(), AllocError>
     ensures ok { OnOk result (out.new.items ≡ out.old.items ++ (codes "hello " ++ decimal version)) }
     ensures no_memory { OnErr result (out.new.items ≡ out.old.items) }
 {
-    out.reserve(FRAME)?;
+    make_room(out, FRAME)?;
     put(out, b"hello ");
     put_number(out, version);
     Ok(())
@@ -174,7 +175,7 @@ fn put_data<const N: usize>(
     let Some(room) = room_of(bytes.len(), bytes.len(), 0) else {
         return Err(AllocError);
     };
-    out.reserve(room)?;
+    make_room(out, room)?;
     put(out, name);
     put_count(out, bytes.len());
     put(out, b" ");
@@ -186,7 +187,7 @@ fn put_exit(out: &mut Vec<u8>, code: i32) -> Result<(), AllocError>
     ensures ok { OnOk result (out.new.items ≡ out.old.items ++ (codes "exit " ++ signed_decimal code)) }
     ensures no_memory { OnErr result (out.new.items ≡ out.old.items) }
 {
-    out.reserve(FRAME)?;
+    make_room(out, FRAME)?;
     put(out, b"exit ");
     put(out, Buffer::new().format(code).as_bytes());
     Ok(())
@@ -204,7 +205,7 @@ fn put_command(
     ensures ok { OnOk result (out.new.items ≡ out.old.items ++ ((name.now ++ (decimal domain ++ (codes " " ++ (decimal port ++ codes " ")))) ++ shown_text text.now)) }
     ensures no_memory { OnErr result (out.new.items ≡ out.old.items) }
 {
-    out.reserve(FRAME + text.len())?;
+    make_room(out, FRAME + text.len())?;
     put_place(out, name, domain, port);
     put(out, b" ");
     put_text(out, text);
@@ -215,7 +216,7 @@ fn put_refused(out: &mut Vec<u8>, ident: &[u8]) -> Result<(), AllocError>
     ensures ok { OnOk result (out.new.items ≡ out.old.items ++ (codes "refused " ++ shown_text ident.now)) }
     ensures no_memory { OnErr result (out.new.items ≡ out.old.items) }
 {
-    out.reserve(FRAME + ident.len())?;
+    make_room(out, FRAME + ident.len())?;
     put(out, b"refused ");
     put_text(out, ident);
     Ok(())
@@ -225,7 +226,7 @@ fn put_terminated(out: &mut Vec<u8>, domain: u32, port: u32) -> Result<(), Alloc
     ensures ok { OnOk result (out.new.items ≡ out.old.items ++ (codes "terminated " ++ (decimal domain ++ (codes " " ++ decimal port)))) }
     ensures no_memory { OnErr result (out.new.items ≡ out.old.items) }
 {
-    out.reserve(FRAME)?;
+    make_room(out, FRAME)?;
     put_place(out, b"terminated ", domain, port);
     Ok(())
 }
@@ -245,7 +246,7 @@ fn put_call(
     let Some(room) = room_of(target.len(), ident.len(), service.len()) else {
         return Err(AllocError);
     };
-    out.reserve(room)?;
+    make_room(out, room)?;
     put(out, name);
     put_text(out, target);
     put(out, b" ");

@@ -9,6 +9,7 @@ use crate::error::DecodeError;
 use crate::piece::push_piece;
 use itoa::{Buffer, Integer};
 use qrexec_frame::{Channel, Decoder, FrameFault, NextError};
+use script_words::text::{LINE, make_room};
 use std::alloc::{AllocError, Global};
 use vchan_io::Memory;
 
@@ -109,6 +110,7 @@ impl Listing {
             mut text,
             ..
         } = self;
+        make_room(&mut text, LINE)?;
         match fault {
             None => put_rest(&mut text, decoder.rest())?,
             Some(fault) => put_fault(&mut text, fault)?,

@@ -9,7 +9,7 @@ ghost use Rattle.step_script.specs.Parts.Spaced.{with_words};
 use crate::player::refusal::LineRefusal;
 use itoa::Buffer;
 use ring_words::{Ring, Role};
-use script_words::text::{push_bytes, push_word};
+use script_words::text::{LINE, make_room, push_bytes, push_word};
 use std::alloc::AllocError;
 use vchan_core::{Answer, Call};
 
@@ -169,12 +169,13 @@ fn push_number(out: &mut Vec<u8>, number: u64) -> Result<(), AllocError>
     push_word(out, Buffer::new().format(number).as_bytes())
 }
 
-/// Appends the name of an end, which begins a line. Each name is a piece of its own length, so that
-/// a few moves copy it.
+/// Appends the name of an end, which begins a line, and makes room for more of it. Each name is a piece of its own
+/// length, so that a few moves copy it.
 #[inline(always)]
 fn push_role(out: &mut Vec<u8>, who: Role) -> Result<(), AllocError>
     ensures { OnOk result (out.new.items ≡ out.old.items ++ role_word who) }
 {
+    make_room(out, LINE)?;
     match who {
         Role::Server => out.extend_from_slice(b"server"),
         Role::Client => out.extend_from_slice(b"client"),
