@@ -19,11 +19,11 @@ use Rattle.scenario_file.specs.KindWords.{kind_word, fault_line}
 
 -- ---- lists
 
-joined : (xs ys : List ℕ) → IsPrintable xs → IsPrintable ys → IsPrintable (xs ++ ys)
+pub joined : (xs ys : List ℕ) → IsPrintable xs → IsPrintable ys → IsPrintable (xs ++ ys)
 joined xs ys left right = each_append (λ (byte : ℕ). (32 ≤ byte) × (byte ≤ 126)) xs ys left right
 
 -- text that is written out passes this test
-abbrev passes : ℕ → Bool
+abbrev pub passes : ℕ → Bool
 passes byte = nat_le 32 byte && nat_le byte 126
 
 within : (byte : ℕ) → passes byte ≡ true → (32 ≤ byte) × (byte ≤ 126)
@@ -31,7 +31,7 @@ within byte h =
     let parts = and_parts (nat_le 32 byte) (nat_le byte 126) h in
     (grind (arith, nat_tests, parts.0), grind (arith, nat_tests, parts.1))
 
-tested : (text : List ℕ) → list_all passes text ≡ true → IsPrintable text
+pub tested : (text : List ℕ) → list_all passes text ≡ true → IsPrintable text
 tested [] h = tt
 tested (byte ∷ text) h = let parts = and_parts (passes byte) (list_all passes text) h in (within byte parts.0, tested text parts.1)
 
@@ -56,7 +56,7 @@ onto base small (suc k) n after h = by_test (n / base == 0) (onto base small k (
     by_test true longer = more
     by_test false longer = longer
 
-printable_decimal : (n : ℕ) → IsPrintable (decimal n)
+pub printable_decimal : (n : ℕ) → IsPrintable (decimal n)
 unfolding digits
 printable_decimal n = onto 10 (λ (k : ℕ). omega arith) 64 n [] tt
 
@@ -153,6 +153,3 @@ printable_kind kind.TooMany = tested (codes "too-many") refl
 
 pub printable_fault : (k : ScenarioKind) (path : List ℕ) → IsPrintable path → IsPrintable (fault_line k path)
 printable_fault k path h = joined (path ++ codes ": ") (kind_word k) (joined path (codes ": ") h (tested (codes ": ") refl)) (printable_kind k)
-
-pub printable_memory : IsPrintable (codes "out of memory")
-printable_memory = tested (codes "out of memory") refl

@@ -3,8 +3,6 @@
 use Rattle.std.specs.Prelude.{ℕ, List, ◌++◌, codes}
 use Rattle.scenario_file.specs.declared.error.ScenarioKind.{ScenarioKind}
 use Rattle.scenario_file.specs.declared.error.ScenarioKind.TheVariants as kind
-use Rattle.scenario_file.specs.declared.error.ScenarioError.{ScenarioError}
-use Rattle.scenario_file.specs.declared.error.ScenarioError.TheVariants as error
 
 -- the word for a kind
 abbrev pub kind_word : ScenarioKind → List ℕ
@@ -24,8 +22,3 @@ kind_word kind.TooMany = codes "too-many"
 -- the line that tells of a fault: its path, and the word for its kind
 abbrev pub fault_line : ScenarioKind → List ℕ → List ℕ
 fault_line kind path = path ++ codes ": " ++ kind_word kind
-
--- the line that tells a user why there is no scenario
-abbrev pub error_line : ScenarioError → List ℕ
-error_line (error.Bad kind path) = fault_line kind path
-error_line error.Memory = codes "out of memory"

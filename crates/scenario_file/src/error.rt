@@ -1,10 +1,9 @@
 //! Why bytes aren't a scenario.
-ghost use Rattle.std.specs.Prelude.{◌≡◌, ◌≤◌, ◌+◌, ◌++◌, length, vec_len, vec_capacity, IsOk, OnOk, OnErr};
+ghost use Rattle.std.specs.Prelude.{◌≡◌};
 
-use crate::path::{Path, push_fault_line};
+use crate::path::Path;
 use std::alloc::AllocError;
 use thiserror::Error;
-use vchan_io::Memory;
 
 /// What is wrong at a place of a scenario file.
 #[derive(Clone, Copy, Debug, PartialEq, Eq)]
@@ -58,33 +57,6 @@ impl From<AllocError> for ScenarioError {
 
     fn from(_refused: AllocError) -> ScenarioError {
         ScenarioError::Memory
-    }
-}
-
-impl ScenarioError {
-    ghost use Rattle.scenario_file.specs.KeyTexts.{IsPrintable};
-    ghost use Rattle.scenario_file.specs.KindWords.{error_line};
-
-    /// Appends the line that tells a user of the error, without a line feed: for a failed check the
-    /// path and the word for the kind, as `call[2].service: bad-text`, and else `out of memory`.
-    ///
-    /// # Errors
-    ///
-    /// `Memory` if memory runs out, which never happens if `out` has room for the line; `out` is as
-    /// it was then.
-    pub fn push_line(&self, out: &mut Vec<u8>) -> Result<(), Memory>
-        ensures ok { OnOk result (out.new.items ≡ out.old.items ++ error_line self.now) }
-        ensures err { OnErr result (out.new.items ≡ out.old.items) }
-        ensures room { vec_len out.old + length (error_line self.now) ≤ vec_capacity out.old → IsOk result }
-        ensures printable { IsPrintable (error_line self.now) }
-    {
-        match self {
-            ScenarioError::Bad { kind, at } => push_fault_line(out, *kind, at),
-            ScenarioError::Memory => {
-                out.extend_from_slice(b"out of memory")?;
-                Ok(())
-            }
-        }
     }
 }
 

@@ -1,4 +1,5 @@
 pub mod Endings
+pub mod LineLaws
 pub mod LoadLaws
 pub mod Pieces
 pub mod RelayLaws

@@ -1,10 +1,14 @@
 -- The statuses of the program: their numbers, and the lines that it prints with them.
-use Rattle.std.specs.Prelude.{ℕ, List, [], ◌++◌, Option, Some, None, codes, decimal}
+use Rattle.std.specs.Prelude.{◌≡◌, ◌⊎◌, ℕ, List, [], ◌++◌, Option, Some, None, Result, Ok, Err, codes, decimal}
+use Rattle.vchan_io.specs.Counts.{Rose}
+use Rattle.vchan_io.specs.Streams.{Appends, AppendsProperPrefix}
+use Rattle.vchan_io.specs.declared.writing.WriteFault.{WriteFault as SinkFailed}
 use Rattle.step_script.specs.declared.error.ScriptKind.{ScriptKind}
 use Rattle.step_script.specs.declared.error.ScriptKind.TheVariants as script
 use Rattle.stream_text.specs.declared.error.DecodeKind.{DecodeKind}
 use Rattle.stream_text.specs.declared.error.DecodeKind.TheVariants as decode
 use Rattle.scenario_file.specs.declared.error.ScenarioKind.{ScenarioKind}
+use Rattle.scenario_file.specs.KeyTexts.{IsPrintable}
 use Rattle.scenario_file.specs.KindWords.{fault_line}
 use Rattle.vchan_persist.specs.declared.error.ClientsKind.{ClientsKind}
 use Rattle.vchan_persist.specs.declared.error.ClientsKind.TheVariants as clients
@@ -75,3 +79,23 @@ status_line TooLong = codes "vchan: input too long\n"
 status_line (BadInput wrong) = bad_input wrong
 status_line WriteFault = codes "vchan: write fault\n"
 status_line OutOfMemory = codes "vchan: out of memory\n"
+
+-- no text, or one line of printable ASCII with its line feed
+abbrev pub IsAtMostALine : List ℕ → Type 0
+IsAtMostALine text = (text ≡ []) ⊎ ((line : List ℕ) × IsPrintable line × (text ≡ line ++ codes "\n"))
+
+-- a line was written to a sink, of which these are the bytes and the counts of faults before and after
+abbrev pub IsAllWritten : List ℕ → Option (List ℕ) → Option (List ℕ) → ℕ → ℕ → Type 0
+IsAllWritten line held held' faults faults' = Appends held held' line × (faults' ≡ faults)
+
+-- or only a proper prefix of it was, and the count rose
+abbrev pub IsCutShort : List ℕ → Option (List ℕ) → Option (List ℕ) → ℕ → ℕ → Type 0
+IsCutShort line held held' faults faults' = AppendsProperPrefix held held' line × Rose faults faults'
+
+abbrev pub IsWritten : List ℕ → Option (List ℕ) → Option (List ℕ) → ℕ → ℕ → Type 0
+IsWritten line held held' faults faults' = IsAllWritten line held held' faults faults' ⊎ IsCutShort line held held' faults faults'
+
+-- which it was, by what was answered
+abbrev pub Writes : List ℕ → Option (List ℕ) → Option (List ℕ) → ℕ → ℕ → Result (Unit {0}) SinkFailed → Type 0
+Writes line held held' faults faults' (Ok done) = IsAllWritten line held held' faults faults'
+Writes line held held' faults faults' (Err failed) = IsCutShort line held held' faults faults'

@@ -3,10 +3,8 @@
 //! The texts are the program's own, and no contract has them. `main` writes them instead of a run of `top`,
 //! for which these words are bad ones.
 ghost use Rattle.std.specs.Prelude.{◌≡◌, map, string_bytes};
-ghost use Rattle.vchan_io.specs.Counts.{Rose};
-ghost use Rattle.vchan_io.specs.Streams.{Appends};
 ghost use Rattle.vchan_top.specs.About.{about_of, Tells};
-ghost use Rattle.vchan_top.specs.Status.{status_line};
+ghost use Rattle.vchan_top.specs.Status.{IsWritten, status_line};
 
 use crate::entry::report_status;
 use crate::status::Status;
@@ -44,11 +42,11 @@ impl About {
 }
 
 /// Writes a text of the program's own to `out`. The status is `Done`, or `WriteFault` only if the count of
-/// `out` rose; a part of the text was written then. `err` gets the line of the status, unless its own count
-/// rose.
+/// `out` rose; a part of the text was written then. `err` gets the line of the status, or a
+/// proper prefix of it if its own count rose.
 pub fn tell<K: Sink, E: Sink>(text: &[u8], out: &mut K, err: &mut E) -> Status
     ensures tells { Tells result text.now (K.held out.old) (K.held out.new) (K.faults out.old) (K.faults out.new) }
-    ensures line { (¬ Rose (E.faults err.old) (E.faults err.new)) → Appends (E.held err.old) (E.held err.new) (status_line result) }
+    ensures line { IsWritten (status_line result) (E.held err.old) (E.held err.new) (E.faults err.old) (E.faults err.new) }
 {
     let status = match write_all(out, text) {
         Ok(()) => Status::Done,

@@ -1,9 +1,11 @@
-ghost use Rattle.std.specs.Prelude.{◌≡◌, ℕ, List, [], ◌+◌, ◌<◌, ◌≤◌, ◌↔◌, length, IfOk, IfSome, IsErrOf, OnOk, OnErr, map, string_bytes, true, false};
+ghost use Rattle.std.specs.Prelude.{◌++◌, codes, ◌≡◌, ℕ, List, [], ◌+◌, ◌<◌, ◌≤◌, ◌↔◌, length, IfOk, IfSome, IsErrOf, OnOk, map, string_bytes, true, false};
+ghost use Rattle.std.specs.List.{flat_map};
 ghost use Rattle.std.specs.Io.KnownBytes.{IsAtEnd};
 ghost use Rattle.vchan_io.specs.Counts.{Rose};
-ghost use Rattle.vchan_io.specs.Streams.{Appends, Takes};
+ghost use Rattle.vchan_io.specs.Streams.{Takes};
 ghost use Rattle.vchan_top.specs.Command.{reads_input};
-ghost use Rattle.vchan_top.specs.Status.{status_line, bad_input, bad_line, bad_place, script_word, decode_word, clients_word};
+ghost use Rattle.scenario_file.specs.KeyTexts.{IsPrintable};
+ghost use Rattle.vchan_top.specs.Status.{IsAtMostALine, IsWritten, Writes, status_line, bad_input, bad_line, bad_place, script_word, decode_word, clients_word};
 ghost use Rattle.vchan_top.specs.Top.{IsRun, greatest_input};
 
 use crate::command::{Command, command_in};
@@ -27,8 +29,8 @@ pub const GREATEST_INPUT: usize = 4_194_304;
 
 /// Does all that the program does. It reads its words, then its whole input, then it does its work, and
 /// writes the text, which is made whole before its first byte is written. If it ends otherwise, it writes one
-/// line about that to `err`; a fault of `err` changes nothing else. For `run` the workers pass `gate`, and
-/// other words don't use it.
+/// line of printable ASCII about that to `err`; a fault of `err` cuts that line short, and changes nothing else.
+/// For `run` the workers pass `gate`, and other words don't use it.
 ///
 /// With `run` and `load` it returns the report whose text or sums are written. The report is lawful for the
 /// scenario, whatever the order of all steps of its workers. With `pipe` and `relay`, which take any bytes,
@@ -56,7 +58,8 @@ pub fn top<S: Source, K: Sink, E: Sink, G: Gate, R: Threads + Wait + Clock + Syn
 ) -> RunEnd
     ensures run { IsRun (map string_bytes words.now) (S.left source.old) (S.left source.new) (S.faults source.old) (S.faults source.new)
         (K.held out.old) (K.held out.new) (K.faults out.old) (K.faults out.new) result }
-    ensures line { (¬ Rose (E.faults err.old) (E.faults err.new)) → Appends (E.held err.old) (E.held err.new) (status_line result.status) }
+    ensures line { IsWritten (status_line result.status) (E.held err.old) (E.held err.new) (E.faults err.old) (E.faults err.new) }
+    ensures printable { IsAtMostALine (status_line result.status) }
 {
     let end = run(rt, alloc, words, source, out, gate);
     let _ = report_status(&end.status, err);
@@ -122,8 +125,8 @@ fn read_input<S: Source>(
 
 /// Writes to `err` how the run ended, if it didn't end well.
 pub fn report_status<E: Sink>(status: &Status, err: &mut E) -> Result<(), WriteFault>
-    ensures line { OnOk result (Appends (E.held err.old) (E.held err.new) (status_line status.now)) }
-    ensures fault { OnErr result (Rose (E.faults err.old) (E.faults err.new)) }
+    ensures writes { Writes (status_line status.now) (E.held err.old) (E.held err.new) (E.faults err.old) (E.faults err.new) result }
+    ensures printable { IsAtMostALine (status_line status.now) }
 {
     match status {
         Status::Done => Ok(()),
@@ -138,8 +141,8 @@ pub fn report_status<E: Sink>(status: &Status, err: &mut E) -> Result<(), WriteF
 
 /// Writes to `err` what is wrong with the input.
 fn report_bad<E: Sink>(err: &mut E, bad: &Bad) -> Result<(), WriteFault>
-    ensures line { OnOk result (Appends (E.held err.old) (E.held err.new) (bad_input bad.now)) }
-    ensures fault { OnErr result (Rose (E.faults err.old) (E.faults err.new)) }
+    ensures writes { Writes (bad_input bad.now) (E.held err.old) (E.held err.new) (E.faults err.old) (E.faults err.new) result }
+    ensures printable { IsAtMostALine (bad_input bad.now) }
 {
     match bad {
         Bad::Script { line, kind } => report_line(err, *line, script_kind(*kind)),
@@ -151,28 +154,37 @@ fn report_bad<E: Sink>(err: &mut E, bad: &Bad) -> Result<(), WriteFault>
 
 /// Writes to `err` which line is bad. It takes no memory, so the line is written even if memory ran out.
 fn report_line<E: Sink>(err: &mut E, line: u32, kind: &[u8]) -> Result<(), WriteFault>
-    ensures line { OnOk result (Appends (E.held err.old) (E.held err.new) (bad_line line kind.now)) }
-    ensures fault { OnErr result (Rose (E.faults err.old) (E.faults err.new)) }
+    ensures { Writes (bad_line line kind.now) (E.held err.old) (E.held err.new) (E.faults err.old) (E.faults err.new) result }
 {
     let mut digits = Buffer::new();
-    write_all(err, b"vchan: line ")?;
-    write_all(err, digits.format(line).as_bytes())?;
-    write_all(err, b": ")?;
-    write_all(err, kind)?;
-    write_all(err, b"\n")
+    let number = digits.format(line).as_bytes();
+    write_pieces(err, &[b"vchan: line ", number, b": ", kind, b"\n"])
 }
 
 /// Writes to `err` which place of a scenario file is bad. It takes no memory, so the place is written even if
 /// memory ran out.
 fn report_place<E: Sink>(err: &mut E, kind: ScenarioKind, at: &Path) -> Result<(), WriteFault>
-    ensures line { OnOk result (Appends (E.held err.old) (E.held err.new) (bad_place kind at.now)) }
-    ensures fault { OnErr result (Rose (E.faults err.old) (E.faults err.new)) }
+    ensures writes { Writes (bad_place kind at.now) (E.held err.old) (E.held err.new) (E.faults err.old) (E.faults err.new) result }
+    ensures printable { IsPrintable at.now }
 {
-    write_all(err, b"vchan: ")?;
-    write_all(err, at.bytes())?;
-    write_all(err, b": ")?;
-    write_all(err, kind.word())?;
-    write_all(err, b"\n")
+    write_place(err, at.bytes(), kind.word())
+}
+
+/// Writes a line of a place and the word for what is wrong there.
+fn write_place<E: Sink>(err: &mut E, at: &[u8], word: &[u8]) -> Result<(), WriteFault>
+    ensures { Writes (codes "vchan: " ++ (at.now ++ codes ": " ++ word.now) ++ codes "\n") (E.held err.old) (E.held err.new) (E.faults err.old) (E.faults err.new) result }
+{
+    write_pieces(err, &[b"vchan: ", at, b": ", word, b"\n"])
+}
+
+/// Writes these pieces of a line, one after the other.
+fn write_pieces<E: Sink>(err: &mut E, pieces: &[&[u8]]) -> Result<(), WriteFault>
+    ensures { Writes (flat_map (λ piece. piece.now) pieces.now) (E.held err.old) (E.held err.new) (E.faults err.old) (E.faults err.new) result }
+{
+    for piece in pieces {
+        write_all(err, piece)?;
+    }
+    Ok(())
 }
 
 /// Returns what is wrong with a line of a script, in the program's words.

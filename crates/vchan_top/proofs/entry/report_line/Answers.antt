@@ -1,14 +1,12 @@
-use Rattle.std.proofs.Common.{ℕ, List, ◌∙◌, subst, codes, decimal}
-use Rattle.list_laws.proofs.Results.{on_ok}
-use Rattle.vchan_io.specs.Streams.{Appends}
-use Rattle.vchan_top.proofs.Pieces.{Appends_five}
+use Rattle.std.proofs.Common.{ℕ, List, [], ◌++◌, ◌∙◌, ap, subst, codes}
+use Rattle.vchan_top.specs.Status.{Writes}
+use Rattle.vchan_top.proofs.Pieces.{five}
 use Rattle.vchan_top.proofs.entry.report_line.Goals as goal
 
-pub returns-clause-line : goal.returns-clause-line
-returns-clause-line g c =
+pub returns : goal.returns
+returns g c =
     let held = g.E.Sink.held in
-    let digits = subst (λ (x : List ℕ). Appends (held c.write_all.new.sink) (held c.write_all-2.new.sink) x) (c.as_bytes.ensures.value ∙ c.format.ensures.text) c.in_ok-write_all-2.ensures.ok in
-    on_ok c.write_all-5.result _ _
-    (λ last. Appends_five (held c.args.err.now) (held c.write_all.new.sink) (held c.write_all-2.new.sink) (held c.write_all-3.new.sink) (held c.write_all-4.new.sink) (held c.write_all-5.new.sink)
-    (codes "vchan: line ") (decimal c.args.line) (codes ": ") c.args.kind.now (codes "\n") c.in_ok-write_all.ensures.ok digits c.in_ok-write_all-3.ensures.ok c.in_ok-write_all-4.ensures.ok last)
-    c.write_all-5.ensures.ok
+    let faults = g.E.Sink.faults in
+    let number = c.as_bytes-number.ensures.value ∙ c.format.ensures.text in
+    let line = ap (λ (n : List ℕ). codes "vchan: line " ++ (n ++ (codes ": " ++ (c.args.kind.now ++ (codes "\n" ++ []))))) number ∙ five (codes "vchan: line ") _ (codes ": ") c.args.kind.now (codes "\n") in
+    subst (λ (x : List ℕ). Writes x (held c.args.err.now) (held c.write_pieces.new.err) (faults c.args.err.now) (faults c.write_pieces.new.err) c.write_pieces.result) line c.write_pieces.ensures
