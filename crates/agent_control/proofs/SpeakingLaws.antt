@@ -415,3 +415,9 @@ pub first_of : (items : List SessionEnd) (o : Option (Bor SessionEnd)) (e : Sess
 first_of items None e item is = cc
 first_of [] (Some x) e item is = absurd (omega (arith, item.3.0))
 first_of (y ∷ items) (Some x) e item is = let same : x.now ≡ e = cc in ap (λ z. z ∷ items) (sym item.1 ∙ same)
+
+-- and if nothing is, there is none
+pub none_of : (items : List SessionEnd) (o : Option (Bor SessionEnd)) → IsItemAt items 0 o → option_copied o ≡ None → items ≡ []
+none_of [] o item is = refl
+none_of (y ∷ items) None item is = absurd (omega (arith, item.3))
+none_of (y ∷ items) (Some x) item is = cc

@@ -1,6 +1,6 @@
 -- What an agent's last call found, after the calls before it.
-use Rattle.std.proofs.Common.{◌≡◌, ℕ, ◌+◌, List, [], ◌∷◌, length, ◌<◌, refl, sym, ap, ◌∙◌, inl, inr, Some, subst}
-use Rattle.std.specs.Prelude.{◌⊎◌, ◌==◌, Bool, true, false, slice_get, slice_set}
+use Rattle.std.proofs.Common.{◌≡◌, ℕ, ◌+◌, List, ◌∷◌, length, ◌<◌, refl, sym, ap, ◌∙◌, Some, subst}
+use Rattle.std.specs.Prelude.{Bool, true, false, slice_get, slice_set}
 use Rattle.list_laws.proofs.Places.{get_within}
 use Rattle.vchan_rule.specs.Seated.{SeatedEnd}
 use Rattle.vchan_rule.specs.Ends.{IsSameEnd}
@@ -13,13 +13,6 @@ use Rattle.agent_queue.specs.Queue.{Queued, QueueState, HasToSay, HasToSayOfLen}
 use Rattle.agent_control.specs.declared.control.AgentControl.{AgentControl}
 use Rattle.agent_control.specs.Speaking.{Says, terminated}
 use Rattle.agent_control.specs.Stopping.{FindsLess, EndWaits, TriggerWaits, HoldsBack, NothingIsDue, HasLessRoom, DidNotGo, Stops, AtAnEnd, AtTheLimit, AtATrigger, Unless}
-
--- a queue with a length has ends in it
-pub some_wait : (len : ℕ) (items : List SessionEnd) (empty : Bool) → len ≡ length items → empty ≡ (len == 0) → empty ≡ false → items ≡ [] → ⊥
-some_wait len items empty long is not none = bad (sym not ∙ (is ∙ ap (λ n. n == 0) (long ∙ ap length none)))
-  where
-    bad : false ≡ true → ⊥
-    bad e = cc
 
 pub end_waits : (old mid : AgentControl) (e : SessionEnd) (rest : List SessionEnd) → mid.unsaid ≡ old.unsaid → old.unsaid.items ≡ e ∷ rest → FailsToSend (written (terminated e)) old.port.end mid.port.end → EndWaits old mid
 end_waits old mid e rest unsaid first fails = record {
@@ -67,11 +60,6 @@ waits_after a b c same w = record {
   same = same_end_then a.port.end b.port.end w.before same w.same;
   fails = w.fails;
 }
-
--- the first end that waits is there
-pub waits_on : (a b c : AgentControl) → IsSameEnd a.port.end b.port.end → (b.unsaid.items ≡ [] → ⊥) → (b.unsaid.items ≡ []) ⊎ EndWaits b c → EndWaits a c
-waits_on a b c same some (inl none) = absurd (some none)
-waits_on a b c same some (inr w) = waits_after a b c same w
 
 trigger_after : (a b c : AgentControl) (Finds : SeatedEnd → SeatedEnd → Message → Type 0) → IsSameEnd a.port.end b.port.end → TriggerWaits b c Finds → TriggerWaits a c Finds
 trigger_after a b c Finds same w = record {

@@ -1,5 +1,5 @@
 //! The control channel of an agent, with its calls, and what the agent sends there.
-ghost use Rattle.std.specs.Prelude.{◌≡◌, ◌⊎◌, ◌<◌, ◌+◌, [], ℕ, true, false, Some, None, OnOk, IfOk, length, if◌then◌else◌};
+ghost use Rattle.std.specs.Prelude.{◌≡◌, ◌+◌, [], ℕ, true, false, Some, None, OnOk, IfOk};
 ghost use Rattle.qrexec_frame.specs.Messages.{written, IsSpellable as Fits};
 ghost use Rattle.qrexec_frame.specs.declared.message.Message.{Message as Said};
 ghost use Rattle.task_duties.specs.Hearing.{to_broker};
@@ -49,7 +49,7 @@ impl<'p> AgentControl<'p> {
         Ok(())
     }
 
-    // Sends the ends of sessions. Returns whether all were sent.
+    // Reports the ends of sessions, the first one first. Returns whether all were reported.
     fn say_ends(&mut self) -> Result<bool, Memory>
         requires can { CanSpeak self.old }
         ensures end { IsSameEnd self.old.port.end self.new.port.end }
@@ -59,31 +59,12 @@ impl<'p> AgentControl<'p> {
         ensures why { IfOk result (λ all. Unless all (EndWaits self.old self.new)) }
         ensures next { OnOk result (self.new.queue.next ≡ self.old.queue.next) }
     {
-        'ends: while !self.unsaid.is_empty() {
-            if !self.say_end()? {
+        'ends: while let Some(end) = self.unsaid.front().copied() {
+            if !self.tell(end)? {
                 return Ok(false);
             }
+            let _told = self.unsaid.pop_front();
         }
-        Ok(true)
-    }
-
-    // Sends the first end of a session that wasn't reported. Returns whether it was sent.
-    fn say_end(&mut self) -> Result<bool, Memory>
-        requires can { CanSpeak self.old }
-        ensures end { IsSameEnd self.old.port.end self.new.port.end }
-        ensures open { IsOpen self.new.port.end }
-        ensures more { OnOk result (SaysMore 0 self.old self.new) }
-        ensures fewer { IfOk result (λ gone. gone ≡ true → length self.new.unsaid.items < length self.old.unsaid.items) }
-        ensures why { IfOk result (λ gone. Unless gone ((self.old.unsaid.items ≡ []) ⊎ EndWaits self.old self.new)) }
-        ensures next { OnOk result (self.new.queue.next ≡ self.old.queue.next) }
-    {
-        let Some(end) = self.unsaid.front().copied() else {
-            return Ok(false);
-        };
-        if !self.tell(end)? {
-            return Ok(false);
-        }
-        let _told = self.unsaid.pop_front();
         Ok(true)
     }
 
