@@ -1,35 +1,64 @@
 -- The sides of an open session don't both make eight turns in a row in which nothing moved.
-use Rattle.std.proofs.Common.{◌≡◌, ℕ, Bool, true, false, List, sym, ◌∙◌, subst}
+use Rattle.std.proofs.Common.{◌≡◌, ◌≢◌, ℕ, Bool, true, false, List, length, Some, if◌then◌else◌, sym, ap, ◌∙◌, subst}
 use Rattle.std.proofs.lemmas.Bool.{false_from_ne_true}
 use Rattle.ring_words.specs.declared.page.Role.{Role}
 use Rattle.ring_words.specs.declared.page.Role.TheVariants.{Server, Client}
-use Rattle.vchan_protocol.specs.Table.Ends.{read_ring, written_ring}
-use Rattle.vchan_protocol.specs.Answering.Loads.{loads_of}
+use Rattle.vchan_protocol.specs.declared.call.Answer.TheVariants.{NotYet}
+use Rattle.vchan_protocol.specs.declared.call.EndState.{EndState}
+use Rattle.vchan_protocol.specs.declared.call.EndState.TheVariants.{Open, Shut}
+use Rattle.vchan_protocol.specs.declared.side.Side.{Side}
+use Rattle.vchan_protocol.specs.Table.Ends.{Standing, read_ring, written_ring, peer_gone}
+use Rattle.vchan_protocol.specs.Answering.Loads.{Loads, loads_of}
+use Rattle.vchan_protocol.specs.Answering.Causes.{DrainCause, FoundHere, drain_got, drain_all_read, drain_not_yet, drain_peer_gone}
 use Rattle.vchan_protocol.specs.History.Core.{Core, side_of, standing_of}
 use Rattle.vchan_protocol.specs.History.Peer.{peer}
+use Rattle.vchan_protocol.specs.Honest.Lawful.{Lawful}
+use Rattle.vchan_protocol.specs.Honest.RingLaw.{word_at}
+use Rattle.vchan_protocol.proofs.Honest.GoneWords.{gone_tells_retired}
 use Rattle.vchan_rule.specs.Seated.{SeatedEnd}
 use Rattle.vchan_lifecycle.specs.Lifecycle.{FindsNotYet}
 use Rattle.service_gate.specs.Owing.{builtin_owes}
 use Rattle.service_gate.specs.declared.builtin.Builtin.{Builtin}
 use Rattle.qrexec_data.specs.CallerSide.{CallerStandsFor}
 use Rattle.qrexec_data.specs.ServingSide.{ServingStandsFor}
-use Rattle.qrexec_data.specs.Laws.{IsVersion}
+use Rattle.qrexec_data.proofs.GoingLaws.{sessions_go_on_lem}
 use Rattle.channel_session.specs.Turning.{IsQuiet, SendsNone, NothingWaits, WasShut, RingIsFull, PeerIsShut}
 use Rattle.standstill_laws.specs.Page.{FoundNothing, StandsStill}
-use Rattle.standstill_laws.specs.Sides.{session_with, quiet_by, HasNone}
+use Rattle.standstill_laws.specs.Sides.{SideAt, HasNone, HoldsEnd, quiet_by}
 use Rattle.standstill_laws.specs.Turns.{SendsStill, IsQuietStill}
-use Rattle.standstill_laws.specs.Sessions.{IsGoneStill}
-use Rattle.standstill_laws.specs.Keeping.{PageRested, KeepsFindings}
-use Rattle.standstill_laws.specs.Stretch.{AreMoments}
-use Rattle.standstill_laws.specs.Moments.{IsBetween, WasSo}
-use Rattle.standstill_laws.specs.Pace.{IsQuietBetween, FoundBetween, RestsLong, NoSessionRests}
+use Rattle.standstill_laws.specs.Moments.{AreMoments, IsBetween, WasSo}
+use Rattle.standstill_laws.specs.Pace.{IsGoneStill, IsQuietBetween, FoundBetween, RestsLong, NoSessionRests}
 use Rattle.standstill_laws.proofs.PageLaws.{stands_still}
-use Rattle.qrexec_data.proofs.GoingLaws.{sessions_go_on_lem}
 use Rattle.standstill_laws.proofs.TurnLaws.{found_nothing, nothing_waits}
-use Rattle.standstill_laws.proofs.OverLaws.{peer_is_there_lem}
-use Rattle.standstill_laws.proofs.SideLaws.{all_same, QuietOne, quiet_one, end_bytes}
-use Rattle.standstill_laws.proofs.StretchLaws.{StaysOpen, stays_open, open_unshut, page_rested}
-use Rattle.standstill_laws.proofs.MomentLaws.{end_goes_on, page_same, moments_rest_lem, not_shut}
+use Rattle.standstill_laws.proofs.SideLaws.{HasSameBytes, all_same, QuietOne, quiet_one, end_bytes, end_open}
+use Rattle.standstill_laws.proofs.MomentLaws.{PageRested, KeepsFindings, moments_rest, last_between, not_shut}
+
+-- ---- a peer that was there
+
+-- a drain that finds nothing yet has found the peer here
+here_by : (e : Standing) (n : ℕ) (loads : Loads) (prod cons : ℕ) → DrainCause e n loads (NotYet prod cons) → FoundHere loads
+here_by e n loads prod cons (drain_got last older pairs none unread some is) = cc
+here_by e n loads prod cons (drain_all_read all is) = cc
+here_by e n loads prod cons (drain_not_yet last last_is none unread here is) = here
+here_by e n loads prod cons (drain_peer_gone last last_is none unread gone is) = cc
+
+gone_told : (core : Core) → Lawful core → (who : Role) → word_at core.orders core.words (peer_gone who) ≡ (if (side_of core (peer who)).retired then 1 else 0)
+gone_told core l Server = l.lives.client_words.gone.word
+gone_told core l Client = l.lives.server_words.gone.word
+
+-- if what it loaded is still so, the peer isn't retired
+not_retired : (core : Core) (who : Role) (before now : SeatedEnd) → Lawful core → (f : FindsNotYet before now) → IsGoneStill core who (loads_of (standing_of before.side) now.side.trail) → (side_of core (peer who)).retired ≡ true → ⊥
+not_retired core who before now lawful f still retired =
+    let here : FoundHere (loads_of (standing_of before.side) now.side.trail) = here_by (standing_of before.side) f.most (loads_of (standing_of before.side) now.side.trail) f.prod f.cons f.cause in
+    let same : Some 0 ≡ Some (word_at core.orders core.words (peer_gone who)) = sym here ∙ still in
+    let word : 0 ≡ word_at core.orders core.words (peer_gone who) = cc in
+    let one : ◌≡◌ {A = ℕ} 0 1 = word ∙ (gone_told core lawful who ∙ ap (λ (b : Bool). if b then 1 else 0) retired) in
+    cc
+
+-- nor was it at the first moment
+peer_was_there : (first last : Core) (who : Role) (before now : SeatedEnd) → FindsNotYet before now → WasSo first last (λ core. IsGoneStill core who (loads_of (standing_of before.side) now.side.trail)) → (side_of first (peer who)).retired ≡ false
+peer_was_there first last who before now not_yet here =
+    false_from_ne_true (side_of first (peer who)).retired (λ is. not_retired here.0 who before now here.1.since.moments.lawful_now not_yet here.2 ((here.1.since.ends (peer who)).retired is))
 
 -- ---- what a quiet turn found, at the moment that has the end as it left it
 
@@ -49,20 +78,42 @@ still_then first last keeps who q f = record {
   sends = sends_still f.sends.0 f.left.0 (keeps f.sends.0 f.left.0 f.sends.1 f.left.1) who q.sends f.sends.2;
 }
 
--- the end across from it isn't retired
-pub peer_was_there : (first last : Core) (who : Role) (before now : SeatedEnd) → FindsNotYet before now → WasSo first last (λ core. IsGoneStill core who (loads_of (standing_of before.side) now.side.trail)) → (side_of first (peer who)).retired ≡ false
-peer_was_there first last who before now not_yet here =
-    false_from_ne_true (side_of first (peer who)).retired (λ is.
-    let there = peer_is_there_lem here.0 who before now here.1.since.moments.lawful_now not_yet here.2 in
-    let bad : true ≡ false = sym ((here.1.since.ends (peer who)).retired is) ∙ there in
-    cc)
+-- ---- a page whose ends are open
 
--- ---- the last moment is one of those between
+-- an end is open at both moments, with as many bytes
+record StaysOpen (before now : Side) : Type 0 where
+  pub was : before.state ≡ Open
+  pub is : now.state ≡ Open
+  pub got : length now.got ≡ length before.got
+  pub sent : length now.sent ≡ length before.sent
 
-pub last_between : (first last : Core) → AreMoments first last → PageRested first last → IsBetween first last last
-last_between first last moments rested = record {
-  since = record { moments = moments; ends = λ who. end_goes_on (side_of first who) (side_of last who) (rested.ends who) };
-  until = page_same last moments.lawful_now;
+open_unshut : (state : EndState) → state ≡ Open → state ≢ Shut
+open_unshut state up is = let bad : Open ≡ Shut = sym up ∙ is in cc
+
+open_unretired : (core : Core) → Lawful core → (who : Role) → (side_of core who).state ≡ Open → (side_of core who).retired ≡ false
+open_unretired core lawful who up = false_from_ne_true (side_of core who).retired (λ is. let shut : Shut ≡ Open = sym ((gone_tells_retired core who lawful.lives).shut is) ∙ up in cc)
+
+stays_open : (who : Role) (from to : SideAt who) (before now : Side) → HoldsEnd who from before → HoldsEnd who to now → HasSameBytes who from to → StaysOpen before now
+stays_open who from to before now old new same =
+    let had = end_bytes who from before old.2 in
+    let has = end_bytes who to now new.2 in
+    record {
+      was = end_open who from before old;
+      is = end_open who to now new;
+      got = ap (λ (l : List ℕ). length l) (sym has.0 ∙ same.0 ∙ had.0);
+      sent = ap (λ (l : List ℕ). length l) (sym has.1 ∙ same.1 ∙ had.1);
+    }
+
+page_rested : (before now : Core) → AreMoments before now → ((who : Role) → StaysOpen (side_of before who) (side_of now who)) → PageRested before now
+page_rested before now moments ends = record {
+  start = moments.start;
+  orders = moments.orders;
+  ends = λ who. record {
+    got = (ends who).got;
+    sent = (ends who).sent;
+    state = (ends who).is ∙ sym (ends who).was;
+    retired = open_unretired now moments.lawful_now who (ends who).is ∙ sym (open_unretired before moments.lawful who (ends who).was);
+  };
 }
 
 -- ---- both sides
@@ -74,13 +125,13 @@ module _ (first last : Core) (moments : AreMoments first last) (sides : (who : R
   opens : (who : Role) → StaysOpen (side_of first who) (side_of last who)
   opens who =
       let s = sides who in
-      stays_open (session_with who s.from) (session_with who s.to) (side_of first who) (side_of last who) s.first_held s.last_held (all_same who (FoundBetween first last who) s.turns s.from s.to s.rests)
+      stays_open who s.from s.to (side_of first who) (side_of last who) s.first_held s.last_held (all_same who (FoundBetween first last who) s.turns s.from s.to s.rests)
 
   rested : PageRested first last
   rested = page_rested first last moments opens
 
   keeps : Keeps first last
-  keeps one other is also = (moments_rest_lem first last one other is also rested).1
+  keeps one other is also = moments_rest first last one other is also rested
 
   found_at : (mid : Core) → IsBetween first last mid → (who : Role) → FoundNothing mid who
   found_at mid is who =
@@ -104,19 +155,19 @@ module _ (first last : Core) (moments : AreMoments first last) (sides : (who : R
       let x = quiet Server in
       let y = quiet Client in
       let page = page_at last (last_between first last moments rested) in
-      let up = end_bytes (session_with Server (sides Server).to) last.server (sides Server).last_held.1.2 in
-      let down = end_bytes (session_with Client (sides Client).to) last.client (sides Client).last_held.1.2 in
-      sessions_go_on_lem Builtin builtin_owes (builtin_owes y.found.stands.2.0) x.before.caller y.before.serving last.server.sent last.client.sent
+      let up = end_bytes Server (sides Server).to last.server (sides Server).last_held.2 in
+      let down = end_bytes Client (sides Client).to last.client (sides Client).last_held.2 in
+      sessions_go_on_lem Builtin builtin_owes (builtin_owes y.found.stands.1.0) x.before.caller y.before.serving last.server.sent last.client.sent
       (record {
-        calls = subst (λ (sent : List ℕ). CallerStandsFor x.before.caller sent) (sym x.same.1 ∙ up.1) x.found.stands.0.stands;
-        serves = subst (λ (sent : List ℕ). ServingStandsFor builtin_owes (builtin_owes y.found.stands.2.0) y.before.serving sent) (sym y.same.1 ∙ down.1) y.found.stands.2.1.stands;
-        caller_got = x.found.stands.0.got ∙ sym x.same.0 ∙ up.0 ∙ page.server_got;
-        serving_got = y.found.stands.2.1.got ∙ sym y.same.0 ∙ down.0 ∙ page.client_got;
-        caller_version = subst IsVersion (sym x.found.stands.1) x.found.own;
-        serving_version = subst IsVersion (sym y.found.stands.1) y.found.own;
-        caller_undecided = x.undecided (sides Server).first_held.1.1;
-        serving_undecided = y.undecided (sides Client).first_held.1.1;
-      }) (none_waits Server, none_waits Client (builtin_owes y.found.stands.2.0) y.found.stands.2.1)
+        calls = subst (λ (sent : List ℕ). CallerStandsFor x.before.caller sent) (sym x.same.1 ∙ up.1) x.found.stands.stands;
+        serves = subst (λ (sent : List ℕ). ServingStandsFor builtin_owes (builtin_owes y.found.stands.1.0) y.before.serving sent) (sym y.same.1 ∙ down.1) y.found.stands.1.1.stands;
+        caller_got = x.found.stands.got ∙ sym x.same.0 ∙ up.0 ∙ page.server_got;
+        serving_got = y.found.stands.1.1.got ∙ sym y.same.0 ∙ down.0 ∙ page.client_got;
+        caller_version = x.found.version;
+        serving_version = y.found.version;
+        caller_undecided = x.undecided (sides Server).first_held.1;
+        serving_undecided = y.undecided (sides Client).first_held.1;
+      }) (none_waits Server, none_waits Client (builtin_owes y.found.stands.1.0) y.found.stands.1.1)
 
 pub no_session_rests_lem : NoSessionRests
 no_session_rests_lem = record {

@@ -14,37 +14,28 @@ use Rattle.channel_session.specs.declared.pause.Turned.{Turned}
 use Rattle.channel_session.specs.declared.pause.Turned.TheVariants.{Moved, Quiet, Passed}
 use Rattle.channel_session.specs.Turning.{Pace, IsPassed}
 use Rattle.channel_session.specs.Answering.{EndsBy}
-use Rattle.agent_slots.specs.Sessions.{Session, CallsWith, ServesWith, got_in, sent_in}
-use Rattle.agent_slots.specs.Agreeing.{SessionStands}
-use Rattle.standstill_laws.specs.Sides.{SideAt, session_with, end_of, pace_of, SideTurns, SideRests, NoTurn, QuietTurn, PassedTurn, HasEnd, IsUndecided}
-
-pub same_side : (who : Role) (a b : SideAt who) → session_with who a ≡ session_with who b → a ≡ b
-same_side Server a b e = cc
-same_side Client a b e = cc
+use Rattle.standstill_laws.specs.Sides.{SideAt, end_of, pace_of, IsUndecided, HoldsEnd, SideTurns, SideRests, NoTurn, QuietTurn, PassedTurn}
 
 -- ---- its bytes
 
-abbrev pub HasSameBytes : Session → Session → Type 0
-HasSameBytes old new = (got_in new ≡ got_in old) × (sent_in new ≡ sent_in old)
+abbrev pub HasSameBytes : (who : Role) → SideAt who → SideAt who → Type 0
+HasSameBytes who old new = ((view (end_of who new)).got ≡ (view (end_of who old)).got) × ((view (end_of who new)).sent ≡ (view (end_of who old)).sent)
 
-pub turn_same : (who : Role) (turned : Turned) (before now : SideAt who) → SideTurns who turned before now → turned ≢ Moved → HasSameBytes (session_with who before) (session_with who now)
+turn_same : (who : Role) (turned : Turned) (before now : SideAt who) → SideTurns who turned before now → turned ≢ Moved → HasSameBytes who before now
 turn_same who Moved before now turn did = absurd (did refl)
 turn_same Server Quiet before now turn did = (turn.0.0, turn.0.1)
 turn_same Client Quiet before now turn did = (turn.0.0, turn.0.1)
 turn_same Server Passed before now turn did = (ap (λ (v : EndView). v.got) turn.1.no_event.view_is, ap (λ (v : EndView). v.sent) turn.1.no_event.view_is)
 turn_same Client Passed before now turn did = (ap (λ (v : EndView). v.got) turn.1.no_event.view_is, ap (λ (v : EndView). v.sent) turn.1.no_event.view_is)
 
-pub end_bytes : (s : Session) (side : Side) → HasEnd s side → (got_in s ≡ side.got) × (sent_in s ≡ side.sent)
-end_bytes (CallsWith at) side h = (ap (λ (s : Side). s.got) h, ap (λ (s : Side). s.sent) h)
-end_bytes (ServesWith at) side h = (ap (λ (s : Side). s.got) h, ap (λ (s : Side). s.sent) h)
-end_bytes _ side h = absurd h
+pub end_bytes : (who : Role) (at : SideAt who) (side : Side) → (end_of who at).side ≡ side → ((view (end_of who at)).got ≡ side.got) × ((view (end_of who at)).sent ≡ side.sent)
+end_bytes who at side h = (ap (λ (s : Side). s.got) h, ap (λ (s : Side). s.sent) h)
 
-pub end_open : (version : ℕ) (s : Session) (side : Side) → SessionStands version s → IsUndecided s → HasEnd s side → side.state ≡ Open
-end_open version (CallsWith at) side stands none h = sym (ap (λ (s : Side). s.state) h) ∙ stands.0.is_open.1
-end_open version (ServesWith at) side stands none h =
-    let ends : EndsBy None (view at.end) = subst (λ (o : Option Outcome). EndsBy o (view at.end)) none stands.0.ends in
-    sym (ap (λ (s : Side). s.state) h) ∙ ends.0
-end_open version _ side stands none h = absurd h
+pub end_open : (who : Role) (at : SideAt who) (side : Side) → HoldsEnd who at side → side.state ≡ Open
+end_open Server at side h = sym (ap (λ (s : Side). s.state) h.2) ∙ h.0.is_open.1
+end_open Client at side h =
+    let ends : EndsBy None (view at.end) = subst (λ (o : Option Outcome). EndsBy o (view at.end)) h.1 h.0.0.ends in
+    sym (ap (λ (s : Side). s.state) h.2) ∙ ends.0
 
 -- ---- a turn that was passed over
 
@@ -52,14 +43,14 @@ passed_by : (who : Role) (before now : SideAt who) → SideTurns who Passed befo
 passed_by Server before now turn = turn.1
 passed_by Client before now turn = turn.1
 
-undecided_stays : (who : Role) (before now : SideAt who) → SideTurns who Passed before now → IsUndecided (session_with who before) → IsUndecided (session_with who now)
+undecided_stays : (who : Role) (before now : SideAt who) → SideTurns who Passed before now → IsUndecided who before → IsUndecided who now
 undecided_stays Server before now turn none = ap (λ (s : CallerState). s.replies.outcome) turn.0 ∙ none
 undecided_stays Client before now turn none = ap (λ (s : ServingState Builtin). s.answering.outcome) turn.0 ∙ none
 
 -- ---- turns in a row
 
 module _ (who : Role) (Finds : (before now : SideAt who) → SideTurns who Quiet before now → Type 0) where
-  pub all_same : (n : ℕ) (from to : SideAt who) → SideRests who Finds n from to → HasSameBytes (session_with who from) (session_with who to)
+  pub all_same : (n : ℕ) (from to : SideAt who) → SideRests who Finds n from to → HasSameBytes who from to
   all_same n from to (NoTurn at) = (refl, refl)
   all_same n from to (QuietTurn m before now then turn found rest) =
       let one = turn_same who Quiet before now turn (λ is. cc) in
@@ -76,8 +67,8 @@ module _ (who : Role) (Finds : (before now : SideAt who) → SideTurns who Quiet
     pub now : SideAt who
     pub turn : SideTurns who Quiet before now
     pub found : Finds before now turn
-    pub undecided : IsUndecided (session_with who from) → IsUndecided (session_with who before)
-    pub same : HasSameBytes (session_with who before) (session_with who to)
+    pub undecided : IsUndecided who from → IsUndecided who before
+    pub same : HasSameBytes who before to
 
   quiet_first : (n : ℕ) (before now then : SideAt who) (turn : SideTurns who Quiet before now) → Finds before now turn → SideRests who Finds n now then → QuietOne before then
   quiet_first n before now then turn found rest =

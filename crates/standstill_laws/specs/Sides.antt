@@ -5,23 +5,19 @@ use Rattle.ring_words.specs.declared.page.Role.{Role}
 use Rattle.ring_words.specs.declared.page.Role.TheVariants.{Server, Client}
 use Rattle.vchan_protocol.specs.declared.side.Side.{Side}
 use Rattle.vchan_rule.specs.Seated.{SeatedEnd}
+use Rattle.service_gate.specs.Owing.{builtin_owes}
+use Rattle.service_gate.specs.declared.builtin.Builtin.{Builtin}
 use Rattle.qrexec_data.specs.CallerSide.{IsStill}
 use Rattle.channel_session.specs.declared.pause.Turned.{Turned}
 use Rattle.channel_session.specs.declared.pause.Turned.TheVariants.{Quiet, Passed}
 use Rattle.channel_session.specs.Turning.{Pace, IsQuiet}
-use Rattle.channel_session.specs.Calling.{CallerAt, CallerTurns}
-use Rattle.channel_session.specs.Answering.{ServingAt, ServingTurns, HasNothing}
-use Rattle.agent_slots.specs.Sessions.{Session, CallsWith, ServesWith}
-use Rattle.agent_slots.specs.Agreeing.{SessionStands}
+use Rattle.channel_session.specs.Calling.{CallerAt, IsCalling, CallerTurns}
+use Rattle.channel_session.specs.Answering.{ServingAt, IsAnswering, IsAtWork, ServingTurns, HasNothing}
 
 -- a caller is on the server's end of its page, and a side that serves on the client's
 abbrev pub SideAt : Role → Type 0
 SideAt Server = CallerAt
 SideAt Client = ServingAt
-
-abbrev pub session_with : (who : Role) → SideAt who → Session
-session_with Server at = CallsWith at
-session_with Client at = ServesWith at
 
 abbrev pub end_of : (who : Role) → SideAt who → SeatedEnd
 end_of Server at = at.end
@@ -32,6 +28,11 @@ abbrev pub pace_of : (who : Role) → SideAt who → Pace
 pace_of Server at = at.pace
 pace_of Client at = at.pace
 
+-- its own version
+abbrev pub own_of : (who : Role) → SideAt who → ℕ
+own_of Server at = at.caller.replies.own
+own_of Client at = at.serving.answering.own
+
 -- the bytes that wait to go
 abbrev pub waiting_of : (who : Role) → SideAt who → List ℕ
 waiting_of Server at = at.caller.requests.waiting
@@ -41,6 +42,20 @@ waiting_of Client at = at.serving.answering.waiting
 abbrev pub HasNone : (who : Role) → SideAt who → Type 0
 HasNone Server at = IsStill at.caller
 HasNone Client at = HasNothing at
+
+-- nothing has decided its session
+abbrev pub IsUndecided : (who : Role) → SideAt who → Type 0
+IsUndecided Server at = at.caller.replies.outcome ≡ None
+IsUndecided Client at = at.serving.answering.outcome ≡ None
+
+-- its two parts agree
+abbrev pub SideStands : (who : Role) → SideAt who → Type 0
+SideStands Server at = IsCalling at.caller at.end
+SideStands Client at = IsAtWork at.serving at.end × ((service : Builtin) × IsAnswering (builtin_owes service) at.serving at.end)
+
+-- a side whose parts agree, and which nothing has decided, has this end
+abbrev pub HoldsEnd : (who : Role) → SideAt who → Side → Type 0
+HoldsEnd who at side = SideStands who at × IsUndecided who at × ((end_of who at).side ≡ side)
 
 -- ---- its turns
 
@@ -58,24 +73,3 @@ pub data SideRests (who : Role) (Finds : (before now : SideAt who) → SideTurns
   NoTurn : (at : SideAt who) → SideRests who Finds zero at at
   QuietTurn : (n : ℕ) (before now then : SideAt who) (turn : SideTurns who Quiet before now) → Finds before now turn → SideRests who Finds n now then → SideRests who Finds (suc n) before then
   PassedTurn : (n : ℕ) (before now then : SideAt who) → SideTurns who Passed before now → SideRests who Finds n now then → SideRests who Finds (suc n) before then
-
--- ---- its session
-
--- an open session has this end
-abbrev pub HasEnd : Session → Side → Type 0
-HasEnd (CallsWith at) side = at.end.side ≡ side
-HasEnd (ServesWith at) side = at.end.side ≡ side
-HasEnd session side = ⊥
-
-abbrev pub IsUndecided : Session → Type 0
-IsUndecided (CallsWith at) = at.caller.replies.outcome ≡ None
-IsUndecided (ServesWith at) = at.serving.answering.outcome ≡ None
-IsUndecided session = Unit {0}
-
--- it is on this end, its parts agree, and nothing has decided it
-abbrev pub IsOn : ℕ → Session → Side → Type 0
-IsOn version session side = SessionStands version session × IsUndecided session × HasEnd session side
-
--- in some version
-abbrev pub IsHeld : Session → Side → Type 0
-IsHeld session side = (version : ℕ) × IsOn version session side

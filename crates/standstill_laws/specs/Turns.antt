@@ -15,7 +15,7 @@ use Rattle.channel_session.specs.Turning.{IsQuiet, SendsNone, NothingWaits, WasS
 use Rattle.channel_session.specs.Calling.{CallerAt, IsCalling}
 use Rattle.channel_session.specs.Answering.{ServingAt, IsAnswering}
 use Rattle.standstill_laws.specs.Page.{AreIndices, IsLiveStill}
-use Rattle.standstill_laws.specs.Sides.{SideAt, session_with, SideTurns, quiet_by, IsUndecided}
+use Rattle.standstill_laws.specs.Sides.{SideAt, IsUndecided, SideTurns, quiet_by}
 use Rattle.qrexec_data.specs.Laws.{IsVersion}
 
 -- why nothing went is still so: the indices that the write answered with, or the live byte that it loaded, are those of the page
@@ -34,7 +34,7 @@ pub record IsQuietStill (core : Core) (who : Role) {still : Type 0} {waiting : L
 -- a side of a session, whose end isn't shut and which nothing has decided, made a quiet turn since which nothing changed
 pub record SideIsQuiet (core : Core) (who : Role) (before now : SideAt who) : Type 0 where
   pub opened : (side_of core who).state ≢ Shut
-  pub undecided : IsUndecided (session_with who before)
+  pub undecided : IsUndecided who before
   pub turn : SideTurns who Quiet before now
   pub still : IsQuietStill core who (quiet_by who before now turn)
 

@@ -1,5 +1,0 @@
-use Rattle.standstill_laws.proofs.laws.all_answers_are_heard.Goals as goal
-use Rattle.standstill_laws.proofs.LetterLaws.{all_answers_are_heard_lem}
-
-pub returns : goal.returns
-returns c = all_answers_are_heard_lem

@@ -1,5 +1,0 @@
-use Rattle.standstill_laws.proofs.laws.fair_runs_are_bounded.Goals as goal
-use Rattle.standstill_laws.proofs.FairLaws.{fair_runs_are_bounded_lem}
-
-pub returns : goal.returns
-returns c = fair_runs_are_bounded_lem

@@ -1,5 +1,0 @@
-use Rattle.standstill_laws.proofs.laws.no_session_is_open.Goals as goal
-use Rattle.standstill_laws.proofs.OverLaws.{no_session_is_open_lem}
-
-pub returns : goal.returns
-returns c = no_session_is_open_lem

@@ -1,5 +1,0 @@
-use Rattle.standstill_laws.proofs.laws.whole_runs_are_bounded.Goals as goal
-use Rattle.standstill_laws.proofs.LeavingLaws.{whole_runs_are_bounded_lem}
-
-pub returns : goal.returns
-returns c = whole_runs_are_bounded_lem
