@@ -103,11 +103,11 @@ ring_lawful core l Right = l.right.lawful
 order_is : (core : Core) (who : Role) (e : Standing) → (e.role ≡ who) × (e.orders ≡ core.orders) → read_order e ≡ order_of core.orders (read_ring who)
 order_is core who e is = ap (λ (o : Orders). order_of o (read_ring e.role)) is.1 ∙ ap (λ (r : Role). order_of core.orders (read_ring r)) is.0
 
-pub write_order_is : (core : Core) (who : Role) (e : Standing) → (e.role ≡ who) × (e.orders ≡ core.orders) → write_order e ≡ order_of core.orders (written_ring who)
+write_order_is : (core : Core) (who : Role) (e : Standing) → (e.role ≡ who) × (e.orders ≡ core.orders) → write_order e ≡ order_of core.orders (written_ring who)
 write_order_is core who e is = ap (λ (o : Orders). order_of o (written_ring e.role)) is.1 ∙ ap (λ (r : Role). order_of core.orders (written_ring r)) is.0
 
 -- all that was sent was got, where the reader's drain found nothing
-pub all_got : (core : Core) (who : Role) → Lawful core → FoundNothing core who → (reader_of core (read_ring who)).got ≡ (writer_of core (read_ring who)).sent
+all_got : (core : Core) (who : Role) → Lawful core → FoundNothing core who → (reader_of core (read_ring who)).got ≡ (writer_of core (read_ring who)).sent
 all_got core who l f =
     let r = ring_lawful core l (read_ring who) in
     let got : List ℕ = (reader_of core (read_ring who)).got in
@@ -122,7 +122,7 @@ all_got core who l f =
     prefix_all got sent r.prefix (omega (arith, here, is))
 
 -- then its writer lacks no room
-pub no_lack : (core : Core) (who : Role) → Lawful core → (reader_of core (written_ring who)).got ≡ (writer_of core (written_ring who)).sent → ¬ FoundNoRoom core who
+no_lack : (core : Core) (who : Role) → Lawful core → (reader_of core (written_ring who)).got ≡ (writer_of core (written_ring who)).sent → ¬ FoundNoRoom core who
 no_lack core who l all f =
     let r = ring_lawful core l (written_ring who) in
     let got : List ℕ = (reader_of core (written_ring who)).got in
@@ -147,7 +147,7 @@ zero_is_shut : (state : EndState) → low8 (live_word state) ≡ 0 → state ≡
 zero_is_shut Fresh is = cc
 zero_is_shut _ is = cc
 
-pub found_shut : (core : Core) → Lawful core → (who : Role) → FoundPeerShut core who → (side_of core (peer who)).state ≡ Shut
+found_shut : (core : Core) → Lawful core → (who : Role) → FoundPeerShut core who → (side_of core (peer who)).state ≡ Shut
 found_shut core l who f =
     let same : Some (low8 (word_at core.orders core.words (peer_live who))) ≡ Some 0 = sym f.still ∙ f.shut in
     let low : low8 (word_at core.orders core.words (peer_live who)) ≡ 0 = cc in
