@@ -3,5 +3,6 @@ pub mod Forms
 pub mod ScriptLines
 pub mod Readings
 pub mod Spaced
+pub mod EndPlayers
 pub mod Players
 pub mod Refusals

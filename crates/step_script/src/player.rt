@@ -5,14 +5,15 @@ ghost use Rattle.step_script.specs.Meaning.ListScript.{ToldByLists};
 
 use crate::played::Played;
 use crate::script::{Line, Opening, Script};
-use end_player::EndPlayer;
+use end_players::EndPlayers;
 use printer::{push_head, push_image, push_lengths};
 use ring_words::{Ring, Role, page_image};
 use std::alloc::{AllocError, Global};
-use vchan_core::{Call, Plain};
+use vchan_core::Plain;
 use vchan_io::Memory;
 
 mod end_player;
+mod end_players;
 mod printer;
 mod refusal;
 
@@ -46,8 +47,7 @@ pub fn play(alloc: Global, script: &Script) -> Result<Played, Memory>
 #[derive(Drop)]
 pub(crate) struct Player {
     page: Plain,
-    server: EndPlayer,
-    client: EndPlayer,
+    ends: EndPlayers,
     text: Vec<u8>,
 }
 
@@ -60,8 +60,8 @@ impl Player {
     ghost use Rattle.step_script.specs.Meaning.Played.{line_done, plays, ring_line};
     ghost use Rattle.step_script.specs.Meaning.ListScript.{CanOpen};
     ghost use Rattle.step_script.specs.Parts.Players.{IsPlayedTo, Plays};
-    ghost use Rattle.step_script.specs.Language.Script.{CallFits, LineFits, begins, calls, finishes, head, image as image_line, steps};
-    ghost use Rattle.step_script.specs.Parts.ScriptLines.{call_with, line_with};
+    ghost use Rattle.step_script.specs.Language.Script.{LineFits, head, image as image_line};
+    ghost use Rattle.step_script.specs.Parts.ScriptLines.{line_with};
 
     /// Returns a page on which nothing has happened yet.
     pub(crate) fn open(alloc: Global, opening: Opening) -> Result<Player, Memory>
@@ -78,8 +78,7 @@ impl Player {
         } = opening;
         Ok(Player {
             page: Plain::open(alloc, orders, start, said, state)?,
-            server: EndPlayer::new(alloc),
-            client: EndPlayer::new(alloc),
+            ends: EndPlayers::new(alloc),
             text: Vec::new(alloc),
         })
     }
@@ -91,10 +90,22 @@ impl Player {
         ensures plays { OnOk result (Plays (line_done (line_with line payload.now)) self.old self.new) }
     {
         match line {
-            Line::Call { who, call } => self.call(who, call, payload),
-            Line::Begin { who, call } => self.begin(who, call, payload),
-            Line::Step { who, most } => self.step(who, most),
-            Line::Finish { who } => self.finish(who),
+            Line::Call { who, call } => self
+                .ends
+                .of_mut(who)
+                .call(&mut self.page, who, call, payload, &mut self.text),
+            Line::Begin { who, call } => self
+                .ends
+                .of_mut(who)
+                .begin(&mut self.page, who, call, payload, &mut self.text),
+            Line::Step { who, most } => self
+                .ends
+                .of_mut(who)
+                .step(&mut self.page, who, most, &mut self.text),
+            Line::Finish { who } => self
+                .ends
+                .of_mut(who)
+                .finish(&mut self.page, who, &mut self.text),
             Line::Poke { who, word, value } => {
                 self.page.poke(who, word, value);
                 Ok(())
@@ -105,60 +116,6 @@ impl Player {
             }
             Line::Head => self.push_page_head(),
             Line::Image => self.push_page(),
-        }
-    }
-
-    /// Makes a whole call of an end.
-    fn call(&mut self, who: Role, call: Call, payload: &[u8]) -> Result<(), AllocError>
-        requires known { (core : Core) × IsPlayedTo core self.old }
-        requires fits { CallFits who (call_with call payload.now) }
-        ensures { OnOk result (Plays (line_done (calls who (call_with call payload.now))) self.old self.new) }
-    {
-        match who {
-            Role::Server => self
-                .server
-                .call(&mut self.page, who, call, payload, &mut self.text),
-            Role::Client => self
-                .client
-                .call(&mut self.page, who, call, payload, &mut self.text),
-        }
-    }
-
-    /// Begins a call of an end.
-    fn begin(&mut self, who: Role, call: Call, payload: &[u8]) -> Result<(), AllocError>
-        requires known { (core : Core) × IsPlayedTo core self.old }
-        requires fits { CallFits who (call_with call payload.now) }
-        ensures { OnOk result (Plays (line_done (begins who (call_with call payload.now))) self.old self.new) }
-    {
-        match who {
-            Role::Server => self
-                .server
-                .begin(&mut self.page, who, call, payload, &mut self.text),
-            Role::Client => self
-                .client
-                .begin(&mut self.page, who, call, payload, &mut self.text),
-        }
-    }
-
-    /// Makes at most this many events of the call that an end is inside.
-    fn step(&mut self, who: Role, most: u32) -> Result<(), AllocError>
-        requires known { (core : Core) × IsPlayedTo core self.old }
-        ensures { OnOk result (Plays (line_done (steps who most)) self.old self.new) }
-    {
-        match who {
-            Role::Server => self.server.step(&mut self.page, who, most, &mut self.text),
-            Role::Client => self.client.step(&mut self.page, who, most, &mut self.text),
-        }
-    }
-
-    /// Makes the events of the call that an end is inside, up to its answer.
-    fn finish(&mut self, who: Role) -> Result<(), AllocError>
-        requires known { (core : Core) × IsPlayedTo core self.old }
-        ensures { OnOk result (Plays (line_done (finishes who)) self.old self.new) }
-    {
-        match who {
-            Role::Server => self.server.finish(&mut self.page, who, &mut self.text),
-            Role::Client => self.client.finish(&mut self.page, who, &mut self.text),
         }
     }
 

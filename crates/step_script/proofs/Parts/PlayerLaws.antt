@@ -34,6 +34,8 @@ use Rattle.step_script.specs.declared.player.refusal.LineRefusal.{LineRefusal}
 use Rattle.step_script.specs.Meaning.Output.{TextLine, line_text, text_of}
 use Rattle.vchan_core.specs.WholeCall.Stepped.{stepped, unless_answered}
 use Rattle.step_script.specs.Meaning.Played.{Outcome, finished, finishes_call, makes_call, begins_call, line_done, steps_call, steps_on, stops_with, unless_refused, call_refusal, step_refusal, plays, prints, quiet, ring_line, step_text}
+use Rattle.step_script.specs.declared.player.end_players.EndPlayers.{EndPlayers}
+use Rattle.step_script.specs.Parts.EndPlayers.{player_of, with_player}
 use Rattle.step_script.specs.Parts.Players.{Does, HasLoaded, IsHeld, IsKnown, IsPlayedTo, Plays}
 use Rattle.step_script.specs.Language.Script.{StepCall, StepLine, opens, calls, begins, steps, finishes, pokes, signals, head, image, LineFits}
 use Rattle.step_script.proofs.Parts.DoesLaws.{held_idle, text_of_one}
@@ -143,65 +145,40 @@ orders_kept image core = refl
 
 -- ---- both ends
 
-pub known_server : (player : Player) → (core : Core) × IsPlayedTo core player → IsKnown Server player.page player.server
-known_server player known = (known.0, record { stands = known.1.stands; held = known.1.server })
+pub known_at : (who : Role) (player : Player) → (core : Core) × IsPlayedTo core player → IsKnown who player.page (player_of player.ends who)
+known_at who player known = (known.0, record { stands = known.1.stands; held = known.1.held who })
 
-pub known_client : (player : Player) → (core : Core) × IsPlayedTo core player → IsKnown Client player.page player.client
-known_client player known = (known.0, record { stands = known.1.stands; held = known.1.client })
+-- what is kept for either end after a line of one of them
+held_after : (who r : Role) (act : Core → Outcome) (core : Core) (player player' : Player) (e : EndPlayer) → Keeps who act → player'.ends ≡ with_player player.ends who e → other_of player'.page who ≡ other_of player.page who →
+    IsHeld (side_of (act core).core who) (machine_of player'.page who) e → IsHeld (side_of core r) (machine_of player.page r) (player_of player.ends r) →
+    IsHeld (side_of (act core).core r) (machine_of player'.page r) (player_of player'.ends r)
+held_after Server Server act core player player' e keeps is other own was = subst (λ (es : EndPlayers). IsHeld (act core).core.server (machine_of player'.page Server) es.server) (sym is) own
+held_after Client Client act core player player' e keeps is other own was = subst (λ (es : EndPlayers). IsHeld (act core).core.client (machine_of player'.page Client) es.client) (sym is) own
+held_after Server Client act core player player' e keeps is other own was =
+    subst (λ (es : EndPlayers). IsHeld (act core).core.client (machine_of player'.page Client) es.client) (sym is)
+    (subst (λ (s : Side). IsHeld s (machine_of player'.page Client) player.ends.client) (sym (keeps core)) (subst (λ (m : Machine). IsHeld core.client m player.ends.client) (sym other) was))
+held_after Client Server act core player player' e keeps is other own was =
+    subst (λ (es : EndPlayers). IsHeld (act core).core.server (machine_of player'.page Server) es.server) (sym is)
+    (subst (λ (s : Side). IsHeld s (machine_of player'.page Server) player.ends.server) (sym (keeps core)) (subst (λ (m : Machine). IsHeld core.server m player.ends.server) (sym other) was))
 
-pub plays_server : (act : Core → Outcome) (player player' : Player) → Keeps Server act → Does Server act player.page player'.page player.server player'.server player.text.items player'.text.items →
-    player'.client ≡ player.client → Plays act player player'
-plays_server act player player' keeps d same = record {
+-- a line of one end
+pub plays_at : (who : Role) (act : Core → Outcome) (player player' : Player) (e : EndPlayer) → Keeps who act → player'.ends ≡ with_player player.ends who e →
+    Does who act player.page player'.page (player_of player.ends who) e player.text.items player'.text.items → Plays act player player'
+plays_at who act player player' e keeps is d = record {
   to = λ core h.
-      let at = d.at core (record { stands = h.stands; held = h.server }) in
-      record {
-        stands = at.stands;
-        server = at.held;
-        client = subst (λ (s : Side). IsHeld s (machine_of player'.page Client) player'.client) (sym (keeps core))
-            (subst (λ (m : Machine). IsHeld core.client m player'.client) (sym d.other) (subst (λ (x : EndPlayer). IsHeld core.client (machine_of player.page Client) x) (sym same) h.client));
-      };
-  prints = λ core h. d.prints core (record { stands = h.stands; held = h.server });
+      let at = d.at core (record { stands = h.stands; held = h.held who }) in
+      record { stands = at.stands; held = λ r. held_after who r act core player player' e keeps is d.other at.held (h.held r) };
+  prints = λ core h. d.prints core (record { stands = h.stands; held = h.held who });
 }
-
-pub plays_client : (act : Core → Outcome) (player player' : Player) → Keeps Client act → Does Client act player.page player'.page player.client player'.client player.text.items player'.text.items →
-    player'.server ≡ player.server → Plays act player player'
-plays_client act player player' keeps d same = record {
-  to = λ core h.
-      let at = d.at core (record { stands = h.stands; held = h.client }) in
-      record {
-        stands = at.stands;
-        client = at.held;
-        server = subst (λ (s : Side). IsHeld s (machine_of player'.page Server) player'.server) (sym (keeps core))
-            (subst (λ (m : Machine). IsHeld core.server m player'.server) (sym d.other) (subst (λ (x : EndPlayer). IsHeld core.server (machine_of player.page Server) x) (sym same) h.server));
-      };
-  prints = λ core h. d.prints core (record { stands = h.stands; held = h.client });
-}
-
--- the same of an end that is the server, and of one that is the client
-pub known_as_server : (who : Role) → who ≡ Server → (player : Player) → (core : Core) × IsPlayedTo core player → IsKnown who player.page player.server
-known_as_server who is player known = subst (λ (r : Role). IsKnown r player.page player.server) (sym is) (known_server player known)
-
-pub known_as_client : (who : Role) → who ≡ Client → (player : Player) → (core : Core) × IsPlayedTo core player → IsKnown who player.page player.client
-known_as_client who is player known = subst (λ (r : Role). IsKnown r player.page player.client) (sym is) (known_client player known)
-
-pub plays_as_server : (who : Role) → who ≡ Server → (act : Core → Outcome) (player player' : Player) → Keeps who act → player'.client ≡ player.client →
-    Does who act player.page player'.page player.server player'.server player.text.items player'.text.items → Plays act player player'
-plays_as_server who is act player player' keeps same d =
-    plays_server act player player' (subst (λ (r : Role). Keeps r act) is keeps) (subst (λ (r : Role). Does r act player.page player'.page player.server player'.server player.text.items player'.text.items) is d) same
-
-pub plays_as_client : (who : Role) → who ≡ Client → (act : Core → Outcome) (player player' : Player) → Keeps who act → player'.server ≡ player.server →
-    Does who act player.page player'.page player.client player'.client player.text.items player'.text.items → Plays act player player'
-plays_as_client who is act player player' keeps same d =
-    plays_client act player player' (subst (λ (r : Role). Keeps r act) is keeps) (subst (λ (r : Role). Does r act player.page player'.page player.client player'.client player.text.items player'.text.items) is d) same
 
 -- one line is printed, and nothing else done
-pub plays_print : (act : Core → Outcome) (player player' : Player) (line : TextLine) → ((core : Core) → StandsFor core player.page → act core ≡ prints core line) → player'.page ≡ player.page → player'.server ≡ player.server →
-    player'.client ≡ player.client → player'.text.items ≡ player.text.items ++ line_text line → Plays act player player'
-plays_print act player player' line is page server client printed = record {
+pub plays_print : (act : Core → Outcome) (player player' : Player) (line : TextLine) → ((core : Core) → StandsFor core player.page → act core ≡ prints core line) → player'.page ≡ player.page → player'.ends ≡ player.ends →
+    player'.text.items ≡ player.text.items ++ line_text line → Plays act player player'
+plays_print act player player' line is page ends printed = record {
   to = λ core h. subst (λ (o : Outcome). IsPlayedTo o.core player') (sym (is core h.stands)) (record {
     stands = subst (λ (p : Plain). StandsFor core p) (sym page) h.stands;
-    server = subst (λ (p : Plain). IsHeld core.server (machine_of p Server) player'.server) (sym page) (subst (λ (x : EndPlayer). IsHeld core.server (machine_of player.page Server) x) (sym server) h.server);
-    client = subst (λ (p : Plain). IsHeld core.client (machine_of p Client) player'.client) (sym page) (subst (λ (x : EndPlayer). IsHeld core.client (machine_of player.page Client) x) (sym client) h.client);
+    held = λ who. subst (λ (p : Plain). IsHeld (side_of core who) (machine_of p who) (player_of player'.ends who)) (sym page)
+        (subst (λ (es : EndPlayers). IsHeld (side_of core who) (machine_of player.page who) (player_of es who)) (sym ends) (h.held who));
   });
   prints = λ core h. printed ∙ ap (λ (l : List ℕ). player.text.items ++ l) (sym (text_of_one line)) ∙ sym (ap (λ (o : Outcome). player.text.items ++ text_of o.lines) (is core h.stands));
 }
@@ -237,14 +214,19 @@ does_stray who word value page page' end_player text stands other = record {
   other = other;
 }
 
+keeps_stray : (who : Role) (word : WordName) (value : ℕ) → Keeps who (λ core. quiet (strayed core who (Store word value)))
+keeps_stray Server word value = λ core. refl
+keeps_stray Client word value = λ core. refl
+
+same_player : (who : Role) (ends : EndPlayers) → ends ≡ with_player ends who (player_of ends who)
+same_player Server ends = refl
+same_player Client ends = refl
+
 pub plays_stray : (who : Role) (word : WordName) (value : ℕ) (player : Player) (page' : Plain) → ((core : Core) → StandsFor core player.page → StandsFor (strayed core who (Store word value)) page') →
     other_of page' who ≡ other_of player.page who → Plays (λ core. quiet (strayed core who (Store word value))) player (record player { page = page' })
-plays_stray Server word value player page' stands other =
-    plays_server (λ core. quiet (strayed core Server (Store word value))) player (record player { page = page' }) (λ core. refl)
-    (does_stray Server word value player.page page' player.server player.text.items stands other) refl
-plays_stray Client word value player page' stands other =
-    plays_client (λ core. quiet (strayed core Client (Store word value))) player (record player { page = page' }) (λ core. refl)
-    (does_stray Client word value player.page page' player.client player.text.items stands other) refl
+plays_stray who word value player page' stands other =
+    plays_at who (λ core. quiet (strayed core who (Store word value))) player (record player { page = page' }) (player_of player.ends who) (keeps_stray who word value) (same_player who player.ends)
+    (does_stray who word value player.page page' (player_of player.ends who) player.text.items stands other)
 
 -- ---- the lines of a script
 

@@ -2,7 +2,6 @@
 use Rattle.std.specs.Prelude.{◌≡◌, ℕ, ◌≤◌, List, [], ◌++◌, length, take, Option, Some}
 use Rattle.std.specs.Option.{option_map}
 use Rattle.ring_words.specs.declared.page.Role.{Role}
-use Rattle.ring_words.specs.declared.page.Role.TheVariants.{Server, Client}
 use Rattle.vchan_protocol.specs.declared.call.Answer.{Answer}
 use Rattle.vchan_protocol.specs.declared.call.Answer.TheVariants.{Got}
 use Rattle.vchan_protocol.specs.declared.call.Call.{Call}
@@ -17,6 +16,7 @@ use Rattle.vchan_core.specs.Page.StandsFor.{StandsFor, machine_of, other_of}
 use Rattle.vchan_core.specs.OneMachine.Phases.{IsIdle, payload_needed, buffer_needed}
 use Rattle.step_script.specs.declared.player.end_player.EndPlayer.{EndPlayer}
 use Rattle.step_script.specs.declared.player.Player.{Player}
+use Rattle.step_script.specs.Parts.EndPlayers.{player_of}
 use Rattle.step_script.specs.Meaning.Output.{text_of}
 use Rattle.step_script.specs.Meaning.Played.{Outcome, bytes_got}
 
@@ -70,8 +70,7 @@ pub record Does (who : Role) (act : Core → Outcome) (page page' : Plain) (end_
 -- the player is at the core state
 pub record IsPlayedTo (core : Core) (player : Player) : Type 0 where
   pub stands : StandsFor core player.page
-  pub server : IsHeld core.server (machine_of player.page Server) player.server
-  pub client : IsHeld core.client (machine_of player.page Client) player.client
+  pub held : (who : Role) → IsHeld (side_of core who) (machine_of player.page who) (player_of player.ends who)
 
 -- from each core state at which the player may have been, this was done, and its lines were printed
 pub record Plays (act : Core → Outcome) (player player' : Player) : Type 0 where

@@ -62,7 +62,7 @@ impl EndPlayer {
         ensures { OnOk result (Does who (line_done (calls who (call_with call payload.now))) page.old page.new self.old self.new text.old.items text.new.items) }
     {
         self.finish_call(page, who, text)?;
-        self.make(page, who, call, payload, text)
+        self.make::<Brand>(page, who, call, payload, text, Blank::new(1))
     }
 
     /// Begins a call, which makes no event. The call that the end is inside is finished first.
@@ -136,15 +136,20 @@ impl EndPlayer {
         push_answer(text, who, self.call, answer, self.buffer.as_slice())
     }
 
-    /// Makes a whole call of an end between two calls, or prints why it can't make it.
-    fn make(
+    /// Makes a whole call of an end between two calls, or prints why it can't make it. Its events are counted in
+    /// the ledger that `blank` opens, which nothing reads.
+    fn make<L: Ledger>(
         &mut self,
         page: &mut Plain,
         who: Role,
         call: Call,
         payload: &[u8],
         text: &mut Vec<u8>,
+        blank: Blank,
     ) -> Result<(), AllocError>
+        requires name { blank.name ≡ L.name }
+        requires parts { blank.parts ≡ L.parts }
+        requires some { 0 < blank.parts }
         requires known { IsKnown who page.old self.old }
         requires idle { IsIdle (machine_of page.old who) }
         requires fits { CallFits who (call_with call payload.now) }
@@ -156,7 +161,8 @@ impl EndPlayer {
             return push_refusal(text, who, why);
         }
         self.make_room(page, who, call)?;
-        let answer = run_call(page, who, call, payload, self.buffer.as_mut_slice());
+        let mut events = Steps::<L>::new(blank);
+        let answer = page.run_call(who, call, payload, self.buffer.as_mut_slice(), &mut events);
         push_answer(text, who, call, answer, self.buffer.as_slice())
     }
 
@@ -253,52 +259,6 @@ impl EndPlayer {
             self.buffer.as_mut_slice(),
         )
     }
-}
-
-/// Makes a whole call, whose events aren't counted.
-fn run_call(page: &mut Plain, who: Role, call: Call, payload: &[u8], buffer: &mut [u8]) -> Answer
-    requires honest { turned_of page.old who ≡ false }
-    requires allowed { Allows (machine_of page.old who) call }
-    requires payload { payload_of call ≤ length payload.now }
-    requires buffer { loaded_most (standing (machine_of page.old who)) call ≤ length buffer.old }
-    ensures stands { (core : Core) → StandsFor core page.old
-        → StandsFor (called core who call (take (payload_of call) payload.now)) page.new }
-    ensures answer { (core : Core) → StandsFor core page.old
-        → result ≡ call_answer core who call (take (payload_of call) payload.now) }
-    ensures buffer { (core : Core) → StandsFor core page.old
-        → buffer.new ≡ filled buffer.old (bytes_loaded (side_of (called core who call (take (payload_of call) payload.now)) who).trail) }
-    ensures idle { IsIdle (machine_of page.new who) }
-    ensures other { other_of page.new who ≡ other_of page.old who }
-{
-    run_counted::<Brand>(page, who, call, payload, buffer, Blank::new(1))
-}
-
-/// Makes a whole call, whose events are counted in the ledger that `blank` opens.
-fn run_counted<L: Ledger>(
-    page: &mut Plain,
-    who: Role,
-    call: Call,
-    payload: &[u8],
-    buffer: &mut [u8],
-    blank: Blank,
-) -> Answer
-    requires name { blank.name ≡ L.name }
-    requires parts { blank.parts ≡ L.parts }
-    requires some { 0 < blank.parts }
-    requires honest { turned_of page.old who ≡ false }
-    requires allowed { Allows (machine_of page.old who) call }
-    requires payload { payload_of call ≤ length payload.now }
-    requires buffer { loaded_most (standing (machine_of page.old who)) call ≤ length buffer.old }
-    ensures stands { (core : Core) → StandsFor core page.old
-        → StandsFor (called core who call (take (payload_of call) payload.now)) page.new }
-    ensures answer { (core : Core) → StandsFor core page.old
-        → result ≡ call_answer core who call (take (payload_of call) payload.now) }
-    ensures buffer { (core : Core) → StandsFor core page.old
-        → buffer.new ≡ filled buffer.old (bytes_loaded (side_of (called core who call (take (payload_of call) payload.now)) who).trail) }
-    ensures idle { IsIdle (machine_of page.new who) }
-    ensures other { other_of page.new who ≡ other_of page.old who }
-{
-    page.run_call(who, call, payload, buffer, &mut Steps::<L>::new(blank))
 }
 
 /// Returns why an end between two calls can't make a call now: the first reason that applies. An

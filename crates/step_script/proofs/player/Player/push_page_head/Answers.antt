@@ -17,10 +17,10 @@ same_words page orders words laid held =
 pub returns : goal.returns
 returns c =
     let player = c.args.self.now in
-    let after : Player = record { page = player.page; server = player.server; client = player.client; text = c.push_head.new.out } in
+    let after : Player = record { page = player.page; ends = player.ends; text = c.push_head.new.out } in
     on_ok_map c.push_head.result c.push_head.ensures
     (plays_print (line_done head) player after (heads (take 24 c.page_image-image.result))
     (λ core stands.
     ap (λ (l : List ℕ). prints core (heads (take 24 l)))
     (sym (c.page_image-image.ensures ∙ ap image_of (same_words c.words.result.now core.orders core.words (c.words.ensures.orders ∙ stands.orders) (c.words.ensures.list ∙ stands.words)))))
-    refl refl refl)
+    refl refl)
