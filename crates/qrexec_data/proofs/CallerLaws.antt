@@ -240,19 +240,25 @@ sends_packed own (Some version) r sent some s = by_waiting (length r.waiting == 
 reads_still : (c : CallerState) (r : RequestsState) → HasRead c → HasRead (record c { requests = r })
 reads_still c r h = record { knows = h.knows; goes_on = λ none. let g = h.goes_on none in record { undecided = g.undecided; at = g.at; knows = g.knows } }
 
-chunk_packed : (version : Option ℕ) (r : RequestsState) → 0 < r.chunk → 0 < (packed_on version r).chunk
-chunk_packed None r some = some
-chunk_packed (Some version) r some = by_tests (length r.waiting == 0) r.closed (nat_lt r.packed (length r.input))
-  where
-    by_tests : (w a b : Bool) → 0 < (if w then (if a then r else if b then record r { packed = r.packed + next_len version r; waiting = r.waiting ++ written (Stdin (take (next_len version r) (drop r.packed r.input))) } else record r { closed = true; waiting = r.waiting ++ written (Stdin []) }) else r).chunk
-    by_tests true true b = some
-    by_tests true false true = some
-    by_tests true false false = some
-    by_tests false a b = some
+-- the same input, in messages as large
+record KeepsInput (a b : RequestsState) : Type 0 where
+  chunk : b.chunk ≡ a.chunk
+  input : b.input ≡ a.input
+
+keeps_if : (b : Bool) (r x y : RequestsState) → KeepsInput r x → KeepsInput r y → KeepsInput r (if b then x else y)
+keeps_if true r x y h k = h
+keeps_if false r x y h k = k
+
+keeps_packed : (version : Option ℕ) (r : RequestsState) → KeepsInput r (packed_on version r)
+keeps_packed None r = record { chunk = refl; input = refl }
+keeps_packed (Some version) r =
+    keeps_if (length r.waiting == 0) r _ _
+    (keeps_if r.closed r _ _ (record { chunk = refl; input = refl }) (keeps_if (nat_lt r.packed (length r.input)) r _ _ (record { chunk = refl; input = refl }) (record { chunk = refl; input = refl })))
+    (record { chunk = refl; input = refl })
 
 pub stands_packed : (c : CallerState) (sent : List ℕ) → CallerStandsFor c sent → CallerStandsFor (record c { requests = packed_on c.replies.version c.requests }) sent
 stands_packed c sent s = record {
-  chunk = chunk_packed c.replies.version c.requests s.chunk;
+  chunk = let N : ℕ → Type 0 = λ n. 0 < n in subst N (sym (keeps_packed c.replies.version c.requests).chunk) s.chunk;
   read = reads_still c (packed_on c.replies.version c.requests) s.read;
   sends = sends_packed c.replies.own c.replies.version c.requests sent s.chunk s.sends;
 }
@@ -261,10 +267,13 @@ pub lends : (old : CallerState) (r : RequestsState) (piece : List ℕ) → old.r
     → LendsRequests old (record old { requests = r }) piece
 lends old r piece none is lent =
     let yes : is_none old.replies.outcome ≡ true = rw none refl in
+    let kept = keeps_packed old.replies.version old.requests in
     record {
       piece_is = lent ∙ sym (if_true (is_none old.replies.outcome) _ _ yes);
       new_is = ap (λ x. later x) (is ∙ sym (if_true (is_none old.replies.outcome) _ _ yes));
-      stands = λ sent s. let P : RequestsState → Type 0 = λ x. CallerStandsFor (record old { requests = x }) sent in subst P (sym is) (stands_packed old sent s);
+      keeps = record { same = record { own = refl; chunk = ap (λ x. x.chunk) is ∙ kept.chunk; input = ap (λ x. x.input) is ∙ kept.input }; got = refl };
+      outcome = refl;
+      stands = λ _ sent s. let P : RequestsState → Type 0 = λ x. CallerStandsFor (record old { requests = x }) sent in subst P (sym is) (stands_packed old sent s);
     }
   where
     later : RequestsState → CallerState

@@ -248,12 +248,15 @@ pub lends_answers : {S : Type 0} (owes : S → List ℕ → Triple) (old inside 
 lends_answers {S} owes old inside answering piece same open_now packed lent =
     let none : inside.answering.outcome ≡ None = none_if inside.answering.outcome open_now in
     let goes : is_none inside.answering.outcome ≡ true = ap is_none none in
+    let kept = same_packed inside.answering.version inside.answering in
     let P : ServingState S → Type 0 = λ s. LendsAnswers owes s (record inside { answering = answering }) piece in
     let moves : answering ≡ (if is_none inside.answering.outcome then packed_on inside.answering.version inside.answering else inside.answering)
     = packed ∙ sym (if_true (is_none inside.answering.outcome) _ _ goes) in
     subst P same (record {
       piece_is = lent ∙ sym (if_true (is_none inside.answering.outcome) _ _ goes);
       new_is = λ i. record { inbox = inside.inbox; answering = moves i };
+      keeps = record { same = record { own = ap (λ x. x.own) packed ∙ kept.own; chunk = ap (λ x. x.chunk) packed ∙ kept.chunk; input = refl }; got = refl };
+      outcome = ap (λ x. x.outcome) packed ∙ kept.outcome;
       stands = λ owed sent h. let Q : AnsweringState S → Type 0 = λ x. ServingStandsFor owes owed (record inside { answering = x }) sent in subst Q (sym packed) (stands_packed owes owed inside sent none h);
     })
 

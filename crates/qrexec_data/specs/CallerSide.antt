@@ -1,15 +1,18 @@
 -- A caller, and what it stands for: what it got, what it knows of it, and what it sent.
-use Rattle.std.specs.Prelude.{◌≡◌, ℕ, ◌+◌, ◌<◌, ◌⊎◌, Bool, true, false, List, [], None, IsSome, is_none, if◌then◌else◌}
+use Rattle.std.specs.Prelude.{◌≡◌, ℕ, ◌+◌, ◌<◌, ◌⊎◌, Bool, true, false, List, [], drop, Some, None, IsSome, is_none, if◌then◌else◌}
+use Rattle.std.specs.Option.{option_or}
 use Rattle.qrexec_frame.specs.declared.kind.Channel.TheVariants.{Data}
 use Rattle.qrexec_frame.specs.declared.message.Message.{Message}
 use Rattle.qrexec_frame.specs.Grammar.{Fault}
 use Rattle.qrexec_frame.specs.Fronts.{front, reading, fault_at}
 use Rattle.qrexec_frame.specs.Streams.{Whole, Bad, Short, Rest}
+use Rattle.qrexec_data.specs.declared.outcome.Outcome.{Outcome}
 use Rattle.qrexec_data.specs.declared.outcome.SessionFault.TheVariants as fault
 use Rattle.qrexec_data.specs.Seeing.{caller_use, sees_all, seen_by}
 use Rattle.qrexec_data.specs.Reading.{InboxState, unread, read_messages, IsAtMessage}
 use Rattle.qrexec_data.specs.Replies.{RepliesState, after_message, faulted, KnowsReplies}
 use Rattle.qrexec_data.specs.Requests.{RequestsState, packed_on, SendsRequests}
+use Rattle.qrexec_data.specs.Half.{HalfOf, Lends}
 
 -- a caller: the bytes that it got, what it knows of them, and what it sends
 pub record CallerState : Type 0 where
@@ -43,12 +46,6 @@ pub record CallerStandsFor (c : CallerState) (sent : List ℕ) : Type 0 where
   pub read : HasRead c
   pub sends : SendsRequests c.replies.own c.replies.version c.requests sent
 
--- what `front` returns, and what it leaves: the next message is packed if there is no outcome
-pub record LendsRequests (old new : CallerState) (piece : List ℕ) : Type 0 where
-  pub piece_is : piece ≡ (if is_none old.replies.outcome then new.requests.waiting else [])
-  pub new_is : new ≡ record old { requests = if is_none old.replies.outcome then packed_on old.replies.version old.requests else old.requests }
-  pub stands : (sent : List ℕ) → CallerStandsFor old sent → CallerStandsFor new sent
-
 -- all that the caller sends has gone
 abbrev pub HasSentAll : CallerState → Type 0
 HasSentAll c = (c.requests.closed ≡ true) × (c.requests.waiting ≡ [])
@@ -56,3 +53,24 @@ HasSentAll c = (c.requests.closed ≡ true) × (c.requests.waiting ≡ [])
 -- nothing can go out: there is an outcome, or all has gone, or the greeting has gone and none was read
 abbrev pub IsStill : CallerState → Type 0
 IsStill c = IsSome c.replies.outcome ⊎ HasSentAll c ⊎ ((c.replies.version ≡ None) × (c.requests.waiting ≡ []))
+
+-- it as either side of a call
+abbrev pub caller_half : HalfOf CallerState
+caller_half = record {
+  own = λ (c : CallerState). c.replies.own;
+  chunk = λ (c : CallerState). c.requests.chunk;
+  input = λ (c : CallerState). c.requests.input;
+  got = λ (c : CallerState). c.inbox.got;
+  waiting = λ (c : CallerState). c.requests.waiting;
+  outcome = λ (c : CallerState). c.replies.outcome;
+  connects = false;
+  lent = λ (c : CallerState). record c { requests = if is_none c.replies.outcome then packed_on c.replies.version c.requests else c.requests };
+  after_gone = λ (count : ℕ) (c : CallerState). record c { requests = record c.requests { waiting = drop count c.requests.waiting } };
+  ended = λ (o : Outcome) (c : CallerState). record c { replies = record c.replies { outcome = option_or c.replies.outcome (Some o) } };
+  Owed = Unit {0};
+  StandsFor = λ _ (c : CallerState) (sent : List ℕ). CallerStandsFor c sent;
+  IsStill = IsStill;
+}
+
+abbrev pub LendsRequests : CallerState → CallerState → List ℕ → Type 0
+LendsRequests old new piece = Lends caller_half old new piece

@@ -6,8 +6,8 @@ pub mod Laws
 pub mod Reading
 pub mod Replies
 pub mod Requests
+pub mod Half
 pub mod CallerSide
-pub mod CallerLent
 pub mod Answering
 pub mod ServingSide
 pub mod Session

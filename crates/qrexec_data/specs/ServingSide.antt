@@ -1,6 +1,7 @@
 -- A side that serves, and what it stands for: what it got, what it knows of it, and what it sent.
 use Rattle.std.specs.Prelude.{◌≡◌, ℕ, ℤ, ◌+◌, ◌<◌, ◌⊎◌, min, Bool, true, false, List, [], ◌∷◌, ◌++◌, length, map, Option, Some, None, IsSome, is_some, is_none, if◌then◌else◌}
 use Rattle.std.specs.List.{flat_map}
+use Rattle.std.specs.Option.{option_or}
 use Rattle.list_laws.specs.Lists.{IsPrefixOf}
 use Rattle.qrexec_frame.specs.declared.kind.Channel.TheVariants.{Data}
 use Rattle.qrexec_frame.specs.declared.message.Message.{Message}
@@ -17,7 +18,8 @@ use Rattle.qrexec_data.specs.Pieces.{In, Out, Err as Errors, Piece, message_of, 
 use Rattle.qrexec_data.specs.Seeing.{Seen, Undecided, Faulty, serving_use, sees_all, seen_by}
 use Rattle.qrexec_data.specs.Sending.{agreed_by, most}
 use Rattle.qrexec_data.specs.Reading.{InboxState, unread, read_messages, IsAtMessage}
-use Rattle.qrexec_data.specs.Answering.{AnsweringState, AnswersTo, faulted, packed_on}
+use Rattle.qrexec_data.specs.Answering.{AnsweringState, AnswersTo, faulted, packed_on, after_gone}
+use Rattle.qrexec_data.specs.Half.{HalfOf, Lends}
 
 -- a side that serves: the bytes that it got, and what it makes of them
 pub record ServingState (S : Type 0) : Type 0 where
@@ -106,12 +108,6 @@ pub record ServingStandsFor {S : Type 0} (owes : S → List ℕ → Triple) (owe
   pub chunk : 0 < s.answering.chunk
   pub read : HasServed owes owed s sent
 
--- what `front` returns, and what it leaves: the next message is packed if there is no outcome
-pub record LendsAnswers {S : Type 0} (owes : S → List ℕ → Triple) (old new : ServingState S) (piece : List ℕ) : Type 0 where
-  pub piece_is : piece ≡ (if is_none old.answering.outcome then new.answering.waiting else [])
-  pub new_is : new ≡ record old { answering = if is_none old.answering.outcome then packed_on old.answering.version old.answering else old.answering }
-  pub stands : (owed : List ℕ → Triple) (sent : List ℕ) → ServingStandsFor owes owed old sent → ServingStandsFor owes owed new sent
-
 -- the bytes that waited still wait, before any others
 abbrev pub StillWaits : {S : Type 0} → AnsweringState S → AnsweringState S → Type 0
 StillWaits old new = IsPrefixOf old.waiting new.waiting
@@ -127,3 +123,24 @@ pub record HasGivenAll {S : Type 0} (a : AnsweringState S) : Type 0 where
 -- nothing can go out: there is an outcome, no greeting was read, or all that the service gave has gone and the input hasn't ended
 abbrev pub IsStill : {S : Type 0} → AnsweringState S → Type 0
 IsStill a = IsSome a.outcome ⊎ ((a.version ≡ None) × (a.waiting ≡ [])) ⊎ HasGivenAll a
+
+-- it as either side of a call; it sends no input
+abbrev pub serving_half : {S : Type 0} → (S → List ℕ → Triple) → HalfOf (ServingState S)
+serving_half {S} owes = record {
+  own = λ (s : ServingState S). s.answering.own;
+  chunk = λ (s : ServingState S). s.answering.chunk;
+  input = λ (s : ServingState S). [];
+  got = λ (s : ServingState S). s.inbox.got;
+  waiting = λ (s : ServingState S). s.answering.waiting;
+  outcome = λ (s : ServingState S). s.answering.outcome;
+  connects = true;
+  lent = λ (s : ServingState S). record s { answering = if is_none s.answering.outcome then packed_on s.answering.version s.answering else s.answering };
+  after_gone = λ (count : ℕ) (s : ServingState S). record s { answering = after_gone count s.answering };
+  ended = λ (o : Outcome) (s : ServingState S). record s { answering = record s.answering { outcome = option_or s.answering.outcome (Some o) } };
+  Owed = List ℕ → Triple;
+  StandsFor = λ (owed : List ℕ → Triple) (s : ServingState S) (sent : List ℕ). ServingStandsFor owes owed s sent;
+  IsStill = λ (s : ServingState S). IsStill s.answering;
+}
+
+abbrev pub LendsAnswers : {S : Type 0} → (S → List ℕ → Triple) → ServingState S → ServingState S → List ℕ → Type 0
+LendsAnswers owes old new piece = Lends (serving_half owes) old new piece

@@ -1,6 +1,7 @@
 ghost use Rattle.std.specs.Prelude.{◌≡◌, ◌≤◌, ◌<◌, ◌^◌, ◌++◌, ◌↔◌, ℕ, List, [], Some, None, IsSome, length, take, drop, Ok, IsOk, IfOk, OnOk, OnErr, true, false};
 ghost use Rattle.std.specs.Option.{option_or};
 
+use crate::half::Half;
 use crate::inbox::Inbox;
 use crate::outcome::{Outcome, SessionFault};
 use crate::replies::Replies;
@@ -11,11 +12,6 @@ use vchan_io::Memory;
 
 /// The side of a call that made it: it sends the call's input, and reads the two outputs and the
 /// exit code.
-///
-/// It only reads and writes bytes. Its owner moves them: it gives the caller what came on a
-/// channel, and tells it how many of the bytes borrowed by `front` have gone. After memory ran out
-/// in `take` or `front`, the session is spent: what it got can still be asked for, and nothing else
-/// is claimed of it.
 #[derive(Debug, Drop)]
 pub struct Caller {
     inbox: Inbox,
@@ -32,11 +28,9 @@ impl Model for Caller {
 }
 
 impl Caller {
-    ghost use Rattle.std.specs.Borrow.{sem};
     ghost use Rattle.qrexec_data.specs.Seeing.{caller_sees};
-    ghost use Rattle.qrexec_data.specs.CallerSide.{CallerStandsFor, ReadsReply, IsReading, HasRead, IsStill};
+    ghost use Rattle.qrexec_data.specs.CallerSide.{CallerStandsFor, ReadsReply, IsReading, HasRead};
     ghost use Rattle.qrexec_data.specs.Reading.{IsByBytes};
-    ghost use Rattle.qrexec_data.specs.CallerLent.{RestsLent};
 
     /// Returns a caller with this input, of this version, 2 or 3. A message of its input has at
     /// most `chunk` bytes, 1 to 65,536, and at most as many as the version allows that both sides
@@ -57,30 +51,6 @@ impl Caller {
             replies: Replies::new(alloc, own),
             requests,
         })
-    }
-
-    /// Reads the next bytes that came. If there is an outcome, it changes nothing. If memory runs
-    /// out, the bytes got are what they were.
-    pub fn take(&mut self, piece: &[u8]) -> Result<(), Memory>
-        ensures over { IsSome self.old.replies.outcome → IsOk result × (self.new ≡ self.old) }
-        ensures got { self.old.replies.outcome ≡ None → OnOk result (self.new.inbox.got ≡ self.old.inbox.got ++ piece.now) }
-        ensures no_memory { OnErr result (self.new.inbox.got ≡ self.old.inbox.got) }
-        ensures same { (self.new.requests ≡ self.old.requests) × (self.new.replies.own ≡ self.old.replies.own) }
-        ensures stands { (sent : List ℕ) → CallerStandsFor self.old sent → OnOk result (CallerStandsFor self.new sent) }
-        ensures bytes { IsByBytes self.old.replies.outcome → IsByBytes self.new.replies.outcome }
-    {
-        if self.replies.outcome().is_some() {
-            return Ok(());
-        }
-        let before = self.inbox.got().len();
-        self.inbox.take(piece)?;
-        match self.read_on() {
-            Ok(()) => Ok(()),
-            Err(refused) => {
-                self.inbox.cut(before);
-                Err(refused)
-            }
-        }
     }
 
     // Reads all whole messages that are left, up to the first that decides.
@@ -124,56 +94,6 @@ impl Caller {
         }
     }
 
-    /// Borrows the bytes that go out next. There are none if and only if there is an outcome, the
-    /// whole stream has gone, or the greeting has gone and the other side's hasn't been read yet.
-    ///
-    /// # Errors
-    ///
-    /// `Memory` if memory runs out; no other.
-    pub fn front(&mut self) -> Result<&[u8], Memory>
-        ensures* after { sem 𝓛 (RestsLent self.entry result) }
-        ensures nothing { IfOk result (λ piece. (piece.now ≡ []) ↔ IsStill self.old) }
-    {
-        if self.replies.outcome().is_some() {
-            return Ok(&[]);
-        }
-        let version = self.replies.version();
-        self.requests.pack(version)?;
-        Ok(self.requests.waiting())
-    }
-
-    /// Drops the first `count` of the bytes borrowed last, which have gone.
-    pub fn advance(&mut self, count: usize)
-        requires { count ≤ length self.old.requests.waiting }
-        ensures gone { self.new ≡ record self.old { requests = record self.old.requests { waiting = drop count self.old.requests.waiting } } }
-        ensures stands { (sent : List ℕ) → CallerStandsFor self.old sent → CallerStandsFor self.new (sent ++ take count self.old.requests.waiting) }
-    {
-        self.requests.advance(count);
-    }
-
-    /// Tells that the other side has closed the channel: the outcome is `Closed` if there was none.
-    pub fn closed(&mut self)
-        ensures outcome { self.new ≡ record self.old { replies = record self.old.replies { outcome = option_or self.old.replies.outcome (Some Outcome.Closed) } } }
-        ensures stands { (sent : List ℕ) → CallerStandsFor self.old sent → CallerStandsFor self.new sent }
-    {
-        self.replies.end(Outcome::Closed);
-    }
-
-    /// Tells that the other side has gone: the outcome is `Gone` if there was none.
-    pub fn gone(&mut self)
-        ensures outcome { self.new ≡ record self.old { replies = record self.old.replies { outcome = option_or self.old.replies.outcome (Some Outcome.Gone) } } }
-        ensures stands { (sent : List ℕ) → CallerStandsFor self.old sent → CallerStandsFor self.new sent }
-    {
-        self.replies.end(Outcome::Gone);
-    }
-
-    /// Returns how the call came out, or `None` if nothing has decided that yet.
-    pub fn outcome(&self) -> Option<Outcome>
-        ensures { result ≡ self.now.replies.outcome }
-    {
-        self.replies.outcome()
-    }
-
     /// Returns the output that came before the message that decided.
     pub fn stdout(&self) -> &[u8]
         ensures is { result.now ≡ self.now.replies.stdout }
@@ -190,13 +110,6 @@ impl Caller {
         self.replies.stderr()
     }
 
-    /// Returns the bytes of all pieces that were taken while there was no outcome.
-    pub fn got(&self) -> &[u8]
-        ensures { result.now ≡ self.now.inbox.got }
-    {
-        self.inbox.got()
-    }
-
     /// Returns what is left of a caller that is done with, without a copy.
     pub fn into_parts(self) -> CallerParts
         ensures outputs { (result.stdout.items ≡ self.replies.stdout) × (result.stderr.items ≡ self.replies.stderr) }
@@ -209,6 +122,74 @@ impl Caller {
             stderr,
             got: inbox.into_got(),
         }
+    }
+}
+
+impl Half for Caller {
+    ghost use Rattle.std.specs.Borrow.{sem};
+    ghost use Rattle.std.specs.Io.BufRead.{Rests};
+    ghost use Rattle.qrexec_data.specs.contracts.caller.Caller.{the_row};
+    ghost use Rattle.qrexec_data.specs.Reading.{IsByBytes};
+    ghost use Rattle.qrexec_data.specs.Half.{IsSameHalf, Lends};
+    ghost use Rattle.qrexec_data.specs.CallerSide.{CallerStandsFor, IsStill, caller_half};
+
+    ghost half = { caller_half };
+
+    fn take(&mut self, piece: &[u8]) -> Result<(), Memory>
+        ensures over { IsSome self.old.replies.outcome → IsOk result × (self.new ≡ self.old) }
+        ensures got { self.old.replies.outcome ≡ None → OnOk result (self.new.inbox.got ≡ self.old.inbox.got ++ piece.now) }
+        ensures no_memory { OnErr result (self.new.inbox.got ≡ self.old.inbox.got) }
+        ensures same { IsSameHalf caller_half self.old self.new }
+        ensures kept { self.new.requests ≡ self.old.requests }
+        ensures stands { (owed : caller_half.Owed) (sent : List ℕ) → CallerStandsFor self.old sent → OnOk result (CallerStandsFor self.new sent) }
+        ensures bytes { IsByBytes self.old.replies.outcome → IsByBytes self.new.replies.outcome }
+    {
+        if self.replies.outcome().is_some() {
+            return Ok(());
+        }
+        let before = self.inbox.got().len();
+        self.inbox.take(piece)?;
+        match self.read_on() {
+            Ok(()) => Ok(()),
+            Err(refused) => {
+                self.inbox.cut(before);
+                Err(refused)
+            }
+        }
+    }
+
+    /// There are no bytes if and only if there is an outcome, the whole stream has gone, or the
+    /// greeting has gone and the other side's hasn't been read yet.
+    fn front(&mut self) -> Result<&[u8], Memory>
+        ensures* after { sem 𝓛 (Rests the_row self.entry (λ new. IfOk result (λ piece. Lends caller_half self.old new piece.now))) }
+        ensures nothing { IfOk result (λ piece. (piece.now ≡ []) ↔ IsStill self.old) }
+    {
+        if self.replies.outcome().is_some() {
+            return Ok(&[]);
+        }
+        let version = self.replies.version();
+        self.requests.pack(version)?;
+        Ok(self.requests.waiting())
+    }
+
+    fn advance(&mut self, count: usize) {
+        self.requests.advance(count);
+    }
+
+    fn closed(&mut self) {
+        self.replies.end(Outcome::Closed);
+    }
+
+    fn gone(&mut self) {
+        self.replies.end(Outcome::Gone);
+    }
+
+    fn outcome(&self) -> Option<Outcome> {
+        self.replies.outcome()
+    }
+
+    fn got(&self) -> &[u8] {
+        self.inbox.got()
     }
 }
 

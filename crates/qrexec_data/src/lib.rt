@@ -8,6 +8,7 @@
 
 mod answering;
 mod caller;
+mod half;
 mod inbox;
 pub mod laws;
 mod outcome;
@@ -17,5 +18,6 @@ mod serving;
 mod unsent;
 
 pub use caller::{Caller, CallerParts};
+pub use half::Half;
 pub use outcome::{Outcome, SessionFault};
 pub use serving::Serving;

@@ -3,6 +3,7 @@ ghost use Rattle.std.specs.Option.{option_or};
 ghost use Rattle.service_gate.specs.Triple.{Triple};
 
 use crate::answering::Answering;
+use crate::half::Half;
 use crate::inbox::Inbox;
 use crate::outcome::{Outcome, SessionFault};
 use service_gate::Service;
@@ -12,9 +13,6 @@ use vchan_io::Memory;
 
 /// The side of a call that serves it: it reads the call's input, feeds it to a service, and sends
 /// what the service gives.
-///
-/// It only reads and writes bytes, as a `Caller` does. After memory ran out in `take` or `front`,
-/// the session is spent: what it got can still be asked for, and nothing else is claimed of it.
 #[derive(Drop)]
 pub struct Serving<S: Service> {
     inbox: Inbox,
@@ -30,12 +28,8 @@ impl<S: Service> Model for Serving<S> {
 }
 
 impl<S: Service> Serving<S> {
-    ghost use Rattle.std.specs.Borrow.{sem};
-    ghost use Rattle.std.specs.Io.BufRead.{Rests};
-    ghost use Rattle.qrexec_data.specs.contracts.serving.Serving.{the_row};
     ghost use Rattle.qrexec_data.specs.Reading.{IsByBytes};
-    ghost use Rattle.qrexec_data.specs.Answering.{after_gone};
-    ghost use Rattle.qrexec_data.specs.ServingSide.{ServingStandsFor, ReadsInput, IsServing, HasServed, LendsAnswers, IsStill, StillWaits};
+    ghost use Rattle.qrexec_data.specs.ServingSide.{ServingStandsFor, ReadsInput, IsServing, HasServed, StillWaits};
 
     /// Returns a side that serves with this service, of this version, 2 or 3. A message of an
     /// output has at most `chunk` bytes, 1 to 65,536, and at most as many as the version allows
@@ -54,32 +48,6 @@ impl<S: Service> Serving<S> {
             inbox: Inbox::new(alloc),
             answering: Answering::new(alloc, service, own, chunk),
         })
-    }
-
-    /// Reads the next bytes that came. If there is an outcome, it changes nothing. If memory runs
-    /// out, the bytes got are what they were.
-    pub fn take(&mut self, piece: &[u8]) -> Result<(), Memory>
-        ensures over { IsSome self.old.answering.outcome → IsOk result × (self.new ≡ self.old) }
-        ensures got { self.old.answering.outcome ≡ None → OnOk result (self.new.inbox.got ≡ self.old.inbox.got ++ piece.now) }
-        ensures no_memory { OnErr result (self.new.inbox.got ≡ self.old.inbox.got) }
-        ensures same { (self.new.answering.own ≡ self.old.answering.own) × (self.new.answering.chunk ≡ self.old.answering.chunk) }
-        ensures waits { OnOk result (StillWaits self.old.answering self.new.answering) }
-        ensures stands { (owed : List ℕ → Triple) (sent : List ℕ) → ServingStandsFor S.owes owed self.old sent →
-            OnOk result (ServingStandsFor S.owes owed self.new sent) }
-        ensures bytes { IsByBytes self.old.answering.outcome → IsByBytes self.new.answering.outcome }
-    {
-        if self.answering.outcome().is_some() {
-            return Ok(());
-        }
-        let before = self.inbox.got().len();
-        self.inbox.take(piece)?;
-        match self.read_on() {
-            Ok(()) => Ok(()),
-            Err(refused) => {
-                self.inbox.cut(before);
-                Err(refused)
-            }
-        }
     }
 
     // Reads all whole messages that are left, up to the first that decides.
@@ -123,66 +91,6 @@ impl<S: Service> Serving<S> {
         }
     }
 
-    /// Borrows the bytes that go out next. There are none if and only if there is an outcome, the
-    /// other side's greeting hasn't been read yet, or all that the service gave has gone and its
-    /// input hasn't ended.
-    ///
-    /// # Errors
-    ///
-    /// `Memory` if memory runs out; no other.
-    pub fn front(&mut self) -> Result<&[u8], Memory>
-        ensures* after { sem 𝓛 (Rests (the_row S.row S.Service) self.entry (λ new. IfOk result (λ piece. LendsAnswers S.owes self.old new piece.now))) }
-        ensures nothing { (owed : List ℕ → Triple) (sent : List ℕ) → ServingStandsFor S.owes owed self.old sent →
-            IfOk result (λ piece. (piece.now ≡ []) ↔ IsStill self.old.answering) }
-    {
-        if self.answering.outcome().is_some() {
-            return Ok(&[]);
-        }
-        self.answering.pack()?;
-        Ok(self.answering.waiting())
-    }
-
-    /// Drops the first `count` of the bytes borrowed last, which have gone. After the last byte of
-    /// the exit code the call is done.
-    pub fn advance(&mut self, count: usize)
-        requires { count ≤ length self.old.answering.waiting }
-        ensures gone { self.new ≡ record self.old { answering = after_gone count self.old.answering } }
-        ensures stands { (owed : List ℕ → Triple) (sent : List ℕ) → ServingStandsFor S.owes owed self.old sent →
-            ServingStandsFor S.owes owed self.new (sent ++ take count self.old.answering.waiting) }
-    {
-        self.answering.advance(count);
-    }
-
-    /// Tells that the other side has closed the channel: the outcome is `Closed` if there was none.
-    pub fn closed(&mut self)
-        ensures outcome { self.new ≡ record self.old { answering = record self.old.answering { outcome = option_or self.old.answering.outcome (Some Outcome.Closed) } } }
-        ensures stands { (owed : List ℕ → Triple) (sent : List ℕ) → ServingStandsFor S.owes owed self.old sent → ServingStandsFor S.owes owed self.new sent }
-    {
-        self.answering.end(Outcome::Closed);
-    }
-
-    /// Tells that the other side has gone: the outcome is `Gone` if there was none.
-    pub fn gone(&mut self)
-        ensures outcome { self.new ≡ record self.old { answering = record self.old.answering { outcome = option_or self.old.answering.outcome (Some Outcome.Gone) } } }
-        ensures stands { (owed : List ℕ → Triple) (sent : List ℕ) → ServingStandsFor S.owes owed self.old sent → ServingStandsFor S.owes owed self.new sent }
-    {
-        self.answering.end(Outcome::Gone);
-    }
-
-    /// Returns how the call came out, or `None` if nothing has decided that yet.
-    pub fn outcome(&self) -> Option<Outcome>
-        ensures { result ≡ self.now.answering.outcome }
-    {
-        self.answering.outcome()
-    }
-
-    /// Returns the bytes of all pieces that were taken while there was no outcome.
-    pub fn got(&self) -> &[u8]
-        ensures { result.now ≡ self.now.inbox.got }
-    {
-        self.inbox.got()
-    }
-
     /// Returns all bytes that came while there was no outcome, without a copy, of a side that is
     /// done with.
     pub fn into_got(self) -> Vec<u8>
@@ -190,5 +98,69 @@ impl<S: Service> Serving<S> {
     {
         let Serving { inbox, .. } = self;
         inbox.into_got()
+    }
+}
+
+impl<S: Service> Half for Serving<S> {
+    ghost use Rattle.std.specs.Borrow.{sem};
+    ghost use Rattle.qrexec_data.specs.Reading.{IsByBytes};
+    ghost use Rattle.qrexec_data.specs.Half.{IsSameHalf};
+    ghost use Rattle.qrexec_data.specs.ServingSide.{ServingStandsFor, StillWaits, serving_half};
+
+    ghost half = { serving_half S.owes };
+
+    fn take(&mut self, piece: &[u8]) -> Result<(), Memory>
+        ensures over { IsSome self.old.answering.outcome → IsOk result × (self.new ≡ self.old) }
+        ensures got { self.old.answering.outcome ≡ None → OnOk result (self.new.inbox.got ≡ self.old.inbox.got ++ piece.now) }
+        ensures no_memory { OnErr result (self.new.inbox.got ≡ self.old.inbox.got) }
+        ensures same { IsSameHalf (serving_half S.owes) self.old self.new }
+        ensures waits { OnOk result (StillWaits self.old.answering self.new.answering) }
+        ensures stands { (owed : List ℕ → Triple) (sent : List ℕ) → ServingStandsFor S.owes owed self.old sent →
+            OnOk result (ServingStandsFor S.owes owed self.new sent) }
+        ensures bytes { IsByBytes self.old.answering.outcome → IsByBytes self.new.answering.outcome }
+    {
+        if self.answering.outcome().is_some() {
+            return Ok(());
+        }
+        let before = self.inbox.got().len();
+        self.inbox.take(piece)?;
+        match self.read_on() {
+            Ok(()) => Ok(()),
+            Err(refused) => {
+                self.inbox.cut(before);
+                Err(refused)
+            }
+        }
+    }
+
+    /// There are no bytes if and only if there is an outcome, the other side's greeting hasn't been
+    /// read yet, or all that the service gave has gone and its input hasn't ended.
+    fn front(&mut self) -> Result<&[u8], Memory> {
+        if self.answering.outcome().is_some() {
+            return Ok(&[]);
+        }
+        self.answering.pack()?;
+        Ok(self.answering.waiting())
+    }
+
+    /// After the last byte of the exit code the call is done.
+    fn advance(&mut self, count: usize) {
+        self.answering.advance(count);
+    }
+
+    fn closed(&mut self) {
+        self.answering.end(Outcome::Closed);
+    }
+
+    fn gone(&mut self) {
+        self.answering.end(Outcome::Gone);
+    }
+
+    fn outcome(&self) -> Option<Outcome> {
+        self.answering.outcome()
+    }
+
+    fn got(&self) -> &[u8] {
+        self.inbox.got()
     }
 }

@@ -1,7 +1,7 @@
 use Rattle.std.proofs.Common.{refl, sym, ◌∙◌, ap}
 use Rattle.std.specs.Prelude.{is_some}
 use Rattle.qrexec_data.proofs.CallerLaws.{lends_inside}
-use Rattle.qrexec_data.proofs.caller.Caller.front.Goals as goal
+use Rattle.qrexec_data.proofs.caller.CallerHalf.front.Goals as goal
 
 pub returns : goal.returns
 returns c =

@@ -1,7 +1,7 @@
 use Rattle.std.proofs.Common.{refl, sym, ◌∙◌, ap}
 use Rattle.std.specs.Prelude.{is_some}
 use Rattle.qrexec_data.proofs.PackLaws.{lends_answers, lends_nothing}
-use Rattle.qrexec_data.proofs.serving.Serving.front.Goals as goal
+use Rattle.qrexec_data.proofs.serving.ServingHalf.front.Goals as goal
 
 pub returns : goal.returns
 returns g c =

@@ -1,5 +1,5 @@
 use Rattle.qrexec_data.proofs.PackLaws.{stands_gone}
-use Rattle.qrexec_data.proofs.serving.Serving.advance.Goals as goal
+use Rattle.qrexec_data.proofs.serving.ServingHalf.advance.Goals as goal
 
 pub returns-clause-stands : goal.returns-clause-stands
 returns-clause-stands g c = λ owed sent stands.
