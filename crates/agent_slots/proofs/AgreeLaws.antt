@@ -40,7 +40,7 @@ all_stand version (s ∷ slots) each can = (by_stage s.stage each.0 can.0, all_s
   where
     by_stage : (stage : Stage) → IsStage version stage → CanRetire stage → SessionStands version (session_of stage)
     by_stage (Unused end) h can = tt
-    by_stage (Calls number input side session) h can = (h.0, h.1)
+    by_stage (Calls number input side session) h can = (h.0, h.1, h.2, can.0)
     by_stage (Awaits number service serving side) h can = tt
     by_stage (Serves number service side session) h can = (h.0, h.1, (service.value, h.2))
     by_stage (CallIsOver number input done end) h can = can.0

@@ -11,8 +11,8 @@ use Rattle.qrexec_data.specs.declared.outcome.Outcome.{Outcome}
 use Rattle.end_view.specs.EndView.{EndView}
 use Rattle.vchan_rule.specs.Seated.{view}
 use Rattle.channel_session.specs.declared.pause.Turned.{Turned}
-use Rattle.channel_session.specs.Calling.{CallerAt, CallerTurns, IsRetired}
-use Rattle.channel_session.specs.Answering.{ServingAt, ServingTurns}
+use Rattle.qrexec_data.specs.CallerSide.{caller_half}
+use Rattle.channel_session.specs.Session.{CallerAt, ServingAt, Turns, IsRetired, builtin_half}
 use Rattle.channel_session.specs.Turning.{KeepsBytes}
 use Rattle.channel_session.proofs.KeepingLaws.{keeps_all, keeps_then, retired_keeps}
 use Rattle.task_duties.specs.declared.ends.DataEnd.{DataEnd}
@@ -33,14 +33,14 @@ use Rattle.agent_slots.proofs.BeginLaws.{call_used, serving_used}
 
 -- ---- one session
 
-pub call_takes : (old : Session) (before now : CallerAt) → Begins old (CallsWith before) → now.caller.replies.outcome ≡ None → ((turned : Turned) × CallerTurns turned before now) → TakesTurn old (CallsWith now)
+pub call_takes : (old : Session) (before now : CallerAt) → Begins old (CallsWith before) → now.half.replies.outcome ≡ None → ((turned : Turned) × Turns caller_half turned before now) → TakesTurn old (CallsWith now)
 call_takes old before now (inl same) none did = CallMade before now did.0 (sym same) refl did.1 none
 call_takes old before now (inr began) none did = never began.1.1
   where
     never : CallsWith before ≡ ServesWith began.1.0 → TakesTurn old (CallsWith now)
     never e = cc
 
-pub serving_takes : (old : Session) (before now : ServingAt) → Begins old (ServesWith before) → now.serving.answering.outcome ≡ None → ((turned : Turned) × ServingTurns turned before now)
+pub serving_takes : (old : Session) (before now : ServingAt) → Begins old (ServesWith before) → now.half.answering.outcome ≡ None → ((turned : Turned) × Turns builtin_half turned before now)
     → TakesTurn old (ServesWith now)
 serving_takes old before now (inl same) none did = ServingMade before now did.0 (sym same) refl did.1 none
 serving_takes old before now (inr began) none did = PageCame before now did.0 began.0 (ap (λ (s : ServingAt). s.pace) (served before began.1.0 began.1.1) ∙ began.1.2) refl did.1 none

@@ -12,8 +12,9 @@ use Rattle.atomic_table.specs.Seated.{TableId}
 use Rattle.service_gate.specs.Triple.{Triple}
 use Rattle.service_gate.specs.Owing.{builtin_owes}
 use Rattle.service_gate.specs.declared.builtin.Builtin.{Builtin}
-use Rattle.channel_session.specs.Calling.{CallerAt, IsCalling, IsSameCall, IsRetired}
-use Rattle.channel_session.specs.Answering.{ServingAt, IsAnswering, IsAtWork}
+use Rattle.qrexec_data.specs.Half.{IsSameHalf}
+use Rattle.qrexec_data.specs.CallerSide.{caller_half}
+use Rattle.channel_session.specs.Session.{CallerAt, ServingAt, IsAtWork, StandsOn, IsRetired, builtin_half}
 use Rattle.agent_slots.specs.declared.stage.Stage.TheVariants.{Unused, Calls, Serves}
 use Rattle.agent_slots.specs.declared.stage.Stage.{Stage}
 use Rattle.agent_slots.specs.Stages.{Use, Frame, framed, IsStage, WasRetired}
@@ -99,13 +100,12 @@ was_retired s before last end retired honest seen = subst WasRetired (sym seen) 
 
 -- ---- a session goes on
 
-pub calls_on : (version number : ℕ) (input : Snapshot (Vec ℕ Global)) (s : PageSide) (old new : CallerAt) {T E : Type 0} (r : Result T E) → OnOk r (IsSameCall old new) → OnOk r (IsCalling new.caller new.end)
-    → IsStage version (Calls number input s old) → OnOk r (IsStage version (Calls number input s new))
-calls_on version number input s old new (Ok x) same calling h = (calling, same.own ∙ h.1, same.input ∙ h.2)
-calls_on version number input s old new (Err e) same calling h = tt
+pub calls_on : (version number : ℕ) (input : Snapshot (Vec ℕ Global)) (s : PageSide) (old new : CallerAt) {T E : Type 0} (r : Result T E) → OnOk r (IsSameHalf caller_half old.half new.half) → OnOk r (IsAtWork caller_half new.half new.end)
+    → ((owed : Unit {0}) → StandsOn caller_half owed old.half old.end → OnOk r (StandsOn caller_half owed new.half new.end)) → IsStage version (Calls number input s old) → OnOk r (IsStage version (Calls number input s new))
+calls_on version number input s old new (Ok x) same work stands h = (work, same.own ∙ h.1, stands tt h.2, same.input ∙ h.3)
+calls_on version number input s old new (Err e) same work stands h = tt
 
-pub serves_on : (version number : ℕ) (service : Snapshot Builtin) (s : PageSide) (old new : ServingAt) {T E : Type 0} (r : Result T E) → OnOk r (new.serving.answering.own ≡ old.serving.answering.own)
-    → OnOk r (IsAtWork new.serving new.end) → ((owed : List ℕ → Triple) → IsAnswering owed old.serving old.end → OnOk r (IsAnswering owed new.serving new.end))
-    → IsStage version (Serves number service s old) → OnOk r (IsStage version (Serves number service s new))
-serves_on version number service s old new (Ok x) own work answering h = (work, own ∙ h.1, answering (builtin_owes service.value) h.2)
-serves_on version number service s old new (Err e) own work answering h = tt
+pub serves_on : (version number : ℕ) (service : Snapshot Builtin) (s : PageSide) (old new : ServingAt) {T E : Type 0} (r : Result T E) → OnOk r (IsSameHalf builtin_half old.half new.half) → OnOk r (IsAtWork builtin_half new.half new.end)
+    → ((owed : List ℕ → Triple) → StandsOn builtin_half owed old.half old.end → OnOk r (StandsOn builtin_half owed new.half new.end)) → IsStage version (Serves number service s old) → OnOk r (IsStage version (Serves number service s new))
+serves_on version number service s old new (Ok x) same work stands h = (work, same.own ∙ h.1, stands (builtin_owes service.value) h.2)
+serves_on version number service s old new (Err e) same work stands h = tt

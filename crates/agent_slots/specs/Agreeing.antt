@@ -6,8 +6,9 @@ use Rattle.task_duties.specs.declared.place.PagePlace.{PagePlace}
 use Rattle.task_duties.specs.declared.done.SessionEnd.{SessionEnd}
 use Rattle.service_gate.specs.Owing.{builtin_owes}
 use Rattle.service_gate.specs.declared.builtin.Builtin.{Builtin}
-use Rattle.channel_session.specs.Calling.{IsCalling}
-use Rattle.channel_session.specs.Answering.{IsAnswering, IsAtWork}
+use Rattle.qrexec_data.specs.CallerSide.{caller_half}
+use Rattle.vchan_rule.specs.Seated.{IsOpen}
+use Rattle.channel_session.specs.Session.{IsAtWork, StandsOn, builtin_half}
 use Rattle.agent_slots.specs.Slots.{SlotsState, place_at}
 use Rattle.agent_slots.specs.Sessions.{Session, NotBegun, CallsWith, ServesWith, EndedWith, is_open, session_at}
 use Rattle.agent_slots.specs.Done.{IsToldOver}
@@ -33,9 +34,9 @@ pub record IsOpenAt (s : SlotsState) (o : SessionEnd) : Type 0 where
 
 -- the two parts of a session that is open agree, in this version; the end of one that is over is retired
 abbrev pub SessionStands : ℕ → Session → Type 0
-SessionStands version (CallsWith at) = IsCalling at.caller at.end × (at.caller.replies.own ≡ version)
+SessionStands version (CallsWith at) = IsAtWork caller_half at.half at.end × (at.half.replies.own ≡ version) × StandsOn caller_half tt at.half at.end × IsOpen at.end
 SessionStands version (ServesWith at) =
-    IsAtWork at.serving at.end × (at.serving.answering.own ≡ version) × ((service : Builtin) × IsAnswering (builtin_owes service) at.serving at.end)
+    IsAtWork builtin_half at.half at.end × (at.half.answering.own ≡ version) × ((service : Builtin) × StandsOn builtin_half (builtin_owes service) at.half at.end)
 SessionStands version (EndedWith end) = end.retired ≡ true
 SessionStands version session = Unit {0}
 

@@ -5,8 +5,8 @@ use Rattle.end_view.specs.EndView.{EndView}
 use Rattle.vchan_rule.specs.Seated.{view}
 use Rattle.task_duties.specs.GivenEnds.{done_view}
 use Rattle.channel_session.specs.declared.pause.Turned.{Turned}
-use Rattle.channel_session.specs.Calling.{CallerAt, CallerTurns}
-use Rattle.channel_session.specs.Answering.{ServingAt, ServingTurns}
+use Rattle.qrexec_data.specs.CallerSide.{caller_half}
+use Rattle.channel_session.specs.Session.{CallerAt, ServingAt, Turns, builtin_half}
 use Rattle.channel_session.specs.Turning.{first_pace}
 use Rattle.agent_slots.specs.declared.stage.Stage.{Stage}
 use Rattle.agent_slots.specs.declared.stage.Stage.TheVariants as stage
@@ -80,9 +80,9 @@ pub record ComesToItsEnd (old new : Session) : Type 0 where
 -- awaited on; or the session comes to its end. One that hasn't begun, and one that is over, stays as it is
 pub data TakesTurn (old new : Session) : Type 0 where
   HadNotBegun : old ≡ NotBegun → new ≡ NotBegun → TakesTurn old new
-  CallMade : (before now : CallerAt) (turned : Turned) → old ≡ CallsWith before → new ≡ CallsWith now → CallerTurns turned before now → now.caller.replies.outcome ≡ None → TakesTurn old new
-  ServingMade : (before now : ServingAt) (turned : Turned) → old ≡ ServesWith before → new ≡ ServesWith now → ServingTurns turned before now → now.serving.answering.outcome ≡ None → TakesTurn old new
-  PageCame : (before now : ServingAt) (turned : Turned) → old ≡ AwaitsPage → before.pace ≡ first_pace → new ≡ ServesWith now → ServingTurns turned before now → now.serving.answering.outcome ≡ None
+  CallMade : (before now : CallerAt) (turned : Turned) → old ≡ CallsWith before → new ≡ CallsWith now → Turns caller_half turned before now → now.half.replies.outcome ≡ None → TakesTurn old new
+  ServingMade : (before now : ServingAt) (turned : Turned) → old ≡ ServesWith before → new ≡ ServesWith now → Turns builtin_half turned before now → now.half.answering.outcome ≡ None → TakesTurn old new
+  PageCame : (before now : ServingAt) (turned : Turned) → old ≡ AwaitsPage → before.pace ≡ first_pace → new ≡ ServesWith now → Turns builtin_half turned before now → now.half.answering.outcome ≡ None
       → TakesTurn old new
   PageAwaited : old ≡ AwaitsPage → new ≡ AwaitsPage → TakesTurn old new
   IsOver : ComesToItsEnd old new → TakesTurn old new

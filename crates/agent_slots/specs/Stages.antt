@@ -14,10 +14,9 @@ use Rattle.page_offer.specs.Views.{unused_view}
 use Rattle.task_duties.specs.GivenEnds.{done_view, fresh_view}
 use Rattle.task_duties.specs.Agent.Sessions.{chunk, CallerOwes, IsService, ServingOwes}
 use Rattle.qrexec_data.specs.declared.outcome.Outcome.{Outcome}
-use Rattle.qrexec_data.specs.CallerSide.{CallerState, CallerStandsFor}
+use Rattle.qrexec_data.specs.CallerSide.{CallerState, CallerStandsFor, caller_half}
 use Rattle.qrexec_data.specs.ServingSide.{ServingState, ServingStandsFor}
-use Rattle.channel_session.specs.Calling.{IsCalling}
-use Rattle.channel_session.specs.Answering.{IsAnswering, IsAtWork}
+use Rattle.channel_session.specs.Session.{IsAtWork, StandsOn, builtin_half}
 use Rattle.agent_slots.specs.declared.stage.Stage.{Stage}
 use Rattle.agent_slots.specs.declared.stage.Stage.TheVariants.{Unused, Calls, Awaits, Serves, CallIsOver, ServingIsOver, Taken}
 use Rattle.agent_slots.specs.declared.slot.Slot.{Slot}
@@ -87,11 +86,11 @@ pub record IsNewServing (serving : ServingState Builtin) : Type 0 where
 abbrev pub IsStage : ℕ → Stage → Type 0
 IsStage version (Unused end) = IsUnused (fresh_view end)
 IsStage version (Calls number input side session) =
-    IsCalling session.caller session.end × (session.caller.replies.own ≡ version) × (session.caller.requests.input ≡ input.value.items)
+    IsAtWork caller_half session.half session.end × (session.half.replies.own ≡ version) × StandsOn caller_half tt session.half session.end × (session.half.requests.input ≡ input.value.items)
 IsStage version (Awaits number service serving side) =
     IsNewServing serving × (serving.answering.own ≡ version) × ServingStandsFor builtin_owes (builtin_owes service.value) serving []
 IsStage version (Serves number service side session) =
-    IsAtWork session.serving session.end × (session.serving.answering.own ≡ version) × IsAnswering (builtin_owes service.value) session.serving session.end
+    IsAtWork builtin_half session.half session.end × (session.half.answering.own ≡ version) × StandsOn builtin_half (builtin_owes service.value) session.half session.end
 IsStage version (CallIsOver number input done end) = CallerOwes version input.value.items done (done_view end)
 IsStage version (ServingIsOver number service outcome got end) =
     (name : List ℕ) → IsService name (builtin_owes service.value) → ServingOwes version name outcome got (done_view end)
@@ -123,15 +122,15 @@ HasPage _ laid = Unit {0}
 
 -- a session is open, and its two parts agree
 abbrev pub CanTurn : Stage → Type 0
-CanTurn (Calls number input side session) = IsCalling session.caller session.end
+CanTurn (Calls number input side session) = IsAtWork caller_half session.half session.end
 CanTurn (Awaits number service serving side) = IsNewServing serving
-CanTurn (Serves number service side session) = IsAtWork session.serving session.end
+CanTurn (Serves number service side session) = IsAtWork builtin_half session.half session.end
 CanTurn _ = ⊥
 
 -- a session that ended like this can be finished
 abbrev pub HasComeOut : Outcome → Stage → Type 0
-HasComeOut outcome (Calls number input side session) = IsCalling session.caller session.end × (session.caller.replies.outcome ≡ Some outcome)
-HasComeOut outcome (Serves number service side session) = IsAtWork session.serving session.end × (session.serving.answering.outcome ≡ Some outcome)
+HasComeOut outcome (Calls number input side session) = IsAtWork caller_half session.half session.end × (session.half.replies.outcome ≡ Some outcome)
+HasComeOut outcome (Serves number service side session) = IsAtWork builtin_half session.half session.end × (session.half.answering.outcome ≡ Some outcome)
 HasComeOut outcome _ = ⊥
 
 -- what the broker is told of a session at this place, once it is over

@@ -8,7 +8,7 @@ ghost use Rattle.vchan_rule.specs.Seated.{view};
 ghost use Rattle.page_offer.specs.Views.{unused_view};
 ghost use Rattle.task_duties.specs.declared.place.PagePlace.{PagePlace};
 ghost use Rattle.task_duties.specs.GivenEnds.{fresh_view};
-ghost use Rattle.channel_session.specs.Answering.{ServingAt};
+ghost use Rattle.channel_session.specs.Session.{ServingAt};
 ghost use Rattle.channel_session.specs.Turning.{first_pace};
 ghost use Rattle.agent_slots.specs.Slots.{held_of};
 ghost use Rattle.agent_slots.specs.Sessions.{AwaitsPage, ServesWith, Begins, session_of};

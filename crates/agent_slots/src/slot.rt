@@ -1,18 +1,17 @@
 //! One data end of an agent, and the turns of its session.
 ghost use Rattle.std.specs.Prelude.{◌≡◌, ◌<◌, ℕ, List, true, is_none, Some, length, OnOk, IfOk, IfSome, IfNone};
-ghost use Rattle.service_gate.specs.Triple.{Triple};
+ghost use Rattle.qrexec_data.specs.Half.{IsSameHalf};
 ghost use Rattle.vchan_rule.specs.Seated.{view, IsOpen};
 ghost use Rattle.vchan_rule.specs.Ends.{IsSameEnd};
 ghost use Rattle.channel_session.specs.declared.pause.Turned.{Turned as Answer};
-ghost use Rattle.channel_session.specs.Calling.{IsCalling, IsSameCall, CallerTurns};
-ghost use Rattle.channel_session.specs.Answering.{IsAnswering, IsAtWork, ServingTurns};
+ghost use Rattle.channel_session.specs.Session.{IsAtWork, StandsOn, Turns};
 ghost use Rattle.channel_session.specs.Turning.{KeepsBytes};
 ghost use Rattle.agent_slots.specs.Sessions.{TakesTurn, LosesNothing, session_of};
 ghost use Rattle.agent_slots.specs.Stages.{IsStage, CanRetire, CanTurn, HasComeOut, is_nothing, is_session, is_late, use_of, told_of, place_of, frame_of};
 
 use crate::stage::Stage;
-use channel_session::{CallerSession, ServingSession};
-use qrexec_data::Outcome;
+use channel_session::Session;
+use qrexec_data::{Half, Outcome};
 use task_duties::{DoneEnd, SessionEnd};
 use vchan_io::Memory;
 
@@ -77,8 +76,8 @@ impl<'p> Slot<'p> {
     {
         self.open_offered();
         match &mut self.stage {
-            Stage::Calls { session, .. } => turn_caller(session, scratch),
-            Stage::Serves { session, .. } => turn_serving(session, scratch),
+            Stage::Calls { session, .. } => turn_half(session, scratch),
+            Stage::Serves { session, .. } => turn_half(session, scratch),
             Stage::Awaits { .. } => Ok(None),
             _ => unreachable!(),
         }
@@ -128,37 +127,21 @@ impl<'p> Slot<'p> {
     }
 }
 
-// Makes one turn of a caller that has no outcome yet. Returns how it ended, if it is over.
-fn turn_caller(session: &mut CallerSession, scratch: &mut [u8]) -> Result<Option<Outcome>, Memory>
-    requires calling { IsCalling session.old.caller session.old.end }
-    requires some { 0 < length scratch.old }
-    ensures end { IsSameEnd session.old.end session.new.end }
-    ensures open { IsOpen session.new.end }
-    ensures same { OnOk result (IsSameCall session.old session.new) }
-    ensures calling { OnOk result (IsCalling session.new.caller session.new.end) }
-    ensures outcome { IfOk result (λ outcome. outcome ≡ session.new.caller.replies.outcome) }
-    ensures turns { IfOk result (λ outcome. IfNone outcome ((turned : Answer) × CallerTurns turned session.old session.new)) }
-    ensures kept { OnOk result (KeepsBytes (view session.old.end) (view session.new.end)) }
-    ensures long { length scratch.new ≡ length scratch.old }
-{
-    if let Some(outcome) = session.outcome() {
-        return Ok(Some(outcome));
-    }
-    session.turn(scratch)?;
-    Ok(session.outcome())
-}
-
-// Makes one turn of a side that serves and has no outcome yet. Returns how it ended, if it is over.
-fn turn_serving(session: &mut ServingSession, scratch: &mut [u8]) -> Result<Option<Outcome>, Memory>
-    requires work { IsAtWork session.old.serving session.old.end }
+// Makes one turn of a side that has no outcome yet. Returns how it ended, if it is over.
+fn turn_half<S: Half>(
+    session: &mut Session<'_, S>,
+    scratch: &mut [u8],
+) -> Result<Option<Outcome>, Memory>
+    requires work { IsAtWork S.half session.old.half session.old.end }
     requires some { 0 < length scratch.old }
     ensures end { IsSameEnd session.old.end session.new.end }
     ensures idle { (view session.new.end).idle ≡ true }
-    ensures own { OnOk result (session.new.serving.answering.own ≡ session.old.serving.answering.own) }
-    ensures work { OnOk result (IsAtWork session.new.serving session.new.end) }
-    ensures answering { (owed : List ℕ → Triple) → IsAnswering owed session.old.serving session.old.end → OnOk result (IsAnswering owed session.new.serving session.new.end) }
-    ensures outcome { IfOk result (λ outcome. outcome ≡ session.new.serving.answering.outcome) }
-    ensures turns { IfOk result (λ outcome. IfNone outcome ((turned : Answer) × ServingTurns turned session.old session.new)) }
+    ensures open { IsOpen session.old.end → IsOpen session.new.end }
+    ensures same { OnOk result (IsSameHalf S.half session.old.half session.new.half) }
+    ensures work { OnOk result (IsAtWork S.half session.new.half session.new.end) }
+    ensures stands { (owed : S.half.Owed) → StandsOn S.half owed session.old.half session.old.end → OnOk result (StandsOn S.half owed session.new.half session.new.end) }
+    ensures outcome { IfOk result (λ outcome. outcome ≡ S.half.outcome session.new.half) }
+    ensures turns { IfOk result (λ outcome. IfNone outcome ((turned : Answer) × Turns S.half turned session.old session.new)) }
     ensures kept { OnOk result (KeepsBytes (view session.old.end) (view session.new.end)) }
     ensures long { length scratch.new ≡ length scratch.old }
 {

@@ -13,17 +13,14 @@ use Rattle.vchan_lifecycle.specs.Lifecycle.{drain_told, FindsNotYet}
 use Rattle.vchan_stream.specs.declared.WriteAnswer.{WriteAnswer}
 use Rattle.vchan_stream.specs.declared.WriteAnswer.TheVariants.{Full as IsFull, PeerClosed as IsShut}
 use Rattle.vchan_stream.specs.Stream.{write_told}
-use Rattle.service_gate.specs.Owing.{builtin_owes}
 use Rattle.qrexec_data.specs.declared.outcome.Outcome.{Outcome}
-use Rattle.qrexec_data.specs.CallerSide.{IsStill}
-use Rattle.qrexec_data.specs.ServingSide.{ServingStandsFor, IsStill as ServingStill}
+use Rattle.qrexec_data.specs.Half.{HalfOf}
 use Rattle.end_view.specs.EndView.{EndView}
 use Rattle.vchan_rule.specs.Seated.{SeatedEnd, view}
 use Rattle.vchan_rule.specs.Ends.{IsSameEnd}
 use Rattle.vchan_rule.specs.Called.{most_asked as asked_most, most_asked}
 use Rattle.vchan_rule.proofs.EndLaws.{same_end_then}
-use Rattle.channel_session.specs.Calling.{CallerAt, CallerTurns, CallerReads, CallerWrites}
-use Rattle.channel_session.specs.Answering.{ServingAt, ServingTurns, ServingReads, ServingWrites, HasNothing}
+use Rattle.channel_session.specs.Session.{SessionAt, Turns, Reads, Writes, HasNothing}
 use Rattle.channel_session.specs.Turning.{Pace, IsMade, KeepsBytes, HasMoved, FindsFull, FindsShut, SendsNone, NothingWaits, WasShut, RingIsFull, PeerIsShut, IsQuiet, KeepsShut, turned_by}
 
 -- ---- what one call found
@@ -112,51 +109,32 @@ by_none P Q waiting shut shut' old found left now one two three is not_yet f sam
 same_through : (a b c d : SeatedEnd) → IsSameEnd a b → IsSameEnd b c → IsSameEnd c d → IsSameEnd a d
 same_through a b c d one two three = same_end_then a b d one (same_end_then b c d two three)
 
-caller_went : (went : Bool) (b c : CallerAt) → CallerWrites went b c → length (view b.end).sent ≤ length (view c.end).sent
-caller_went true b c more = omega (arith, more)
-caller_went false b c rests = as_long (view b.end).sent (view c.end).sent rests.0
+went_on : {S : Type 0} (h : HalfOf S) (went : Bool) (b c : SessionAt S) → Writes h went b c → length (view b.end).sent ≤ length (view c.end).sent
+went_on h true b c more = omega (arith, more)
+went_on h false b c rests = as_long (view b.end).sent (view c.end).sent rests.0
 
-serving_went : (went : Bool) (b c : ServingAt) → ServingWrites went b c → length (view b.end).sent ≤ length (view c.end).sent
-serving_went true b c more = omega (arith, more)
-serving_went false b c rests = as_long (view b.end).sent (view c.end).sent rests.0
-
-pub caller_turns : (came went : Bool) (old a b c : CallerAt) (pace : Pace) → IsSameEnd old.end a.end → IsSameEnd a.end b.end → IsSameEnd b.end c.end → view a.end ≡ view old.end → a.caller ≡ old.caller → a.pace ≡ old.pace → old.caller.replies.outcome ≡ None
-    → CallerReads came a b → b.pace ≡ a.pace → (view b.end).sent ≡ (view a.end).sent
-    → CallerWrites went b c → (view c.end).got ≡ (view b.end).got → c.caller.replies.outcome ≡ b.caller.replies.outcome
-    → IsMade (not (came || went)) pace → CallerTurns (turned_by (came || went)) old (record { caller = c.caller; end = c.end; pace = pace })
-caller_turns true went old a b c pace same same' same'' is caller was none reads paced sent writes got outcome made =
-    (by_read (view old.end) (view a.end) (view b.end) (view c.end) b.caller.replies.outcome c.caller.replies.outcome is reads.0 reads.1 sent got (caller_went went b c writes) (subst IsSome (sym outcome)), made, same_through old.end a.end b.end c.end same same' same'')
-caller_turns false true old a b c pace same same' same'' is caller was none reads paced sent more got outcome made =
-    (by_write (view old.end) (view a.end) (view b.end) (view c.end) c.caller.replies.outcome is reads.1 sent got more, made, same_through old.end a.end b.end c.end same same' same'')
-caller_turns false false old a b c pace same same' same'' is caller was none reads paced sent rests got outcome made =
-    let kept = reads.0 ∙ caller in (
-      (got ∙ (reads.1 ∙ ap (λ v. v.got) is), rests.0 ∙ (sent ∙ ap (λ v. v.sent) is), outcome ∙ (ap (λ k. k.replies.outcome) kept ∙ none)),
-      made,
-      by_none (IsStill b.caller) (IsStill old.caller) c.caller.requests.waiting b.pace.peer_shut old.pace.peer_shut old.end a.end b.end c.end same same' same'' is reads.2 (subst IsStill kept) (ap (λ p. p.peer_shut) (paced ∙ was)) rests.1,
-    )
-
-answers_still : (old b : ServingAt) → b.serving ≡ old.serving → (view b.end).got ≡ (view old.end).got → (view b.end).sent ≡ (view old.end).sent → HasNothing b → HasNothing old
-answers_still old b serving got sent nothing owed h =
-    subst (λ s. ServingStill s.answering) serving (nothing owed (record {
-      got = ap (λ s. s.inbox.got) serving ∙ (h.got ∙ sym got);
-      stands = subst (λ s. ServingStandsFor builtin_owes owed s (view b.end).sent) (sym serving) (subst (λ l. ServingStandsFor builtin_owes owed old.serving l) (sym sent) h.stands);
+still_nothing : {S : Type 0} (h : HalfOf S) (old b : SessionAt S) → b.half ≡ old.half → (view b.end).got ≡ (view old.end).got → (view b.end).sent ≡ (view old.end).sent → HasNothing h b → HasNothing h old
+still_nothing h old b half got sent nothing owed on =
+    subst h.IsStill half (nothing owed (record {
+      got = ap h.got half ∙ (on.got ∙ sym got);
+      stands = subst (λ s. h.StandsFor owed s (view b.end).sent) (sym half) (subst (λ l. h.StandsFor owed old.half l) (sym sent) on.stands);
     }))
 
-pub serving_turns : (came went : Bool) (old a b c : ServingAt) (pace : Pace) → IsSameEnd old.end a.end → IsSameEnd a.end b.end → IsSameEnd b.end c.end → view a.end ≡ view old.end → a.serving ≡ old.serving → a.pace ≡ old.pace → old.serving.answering.outcome ≡ None
-    → ServingReads came a b → b.pace ≡ a.pace → (view b.end).sent ≡ (view a.end).sent
-    → ServingWrites went b c → (view c.end).got ≡ (view b.end).got → (IsSome b.serving.answering.outcome → IsSome c.serving.answering.outcome)
-    → IsMade (not (came || went)) pace → ServingTurns (turned_by (came || went)) old (record { serving = c.serving; end = c.end; pace = pace })
-serving_turns true went old a b c pace same same' same'' is serving was none reads paced sent writes got outcome made =
-    (by_read (view old.end) (view a.end) (view b.end) (view c.end) b.serving.answering.outcome c.serving.answering.outcome is reads.0 reads.1 sent got (serving_went went b c writes) outcome, made, same_through old.end a.end b.end c.end same same' same'')
-serving_turns false true old a b c pace same same' same'' is serving was none reads paced sent more got outcome made =
-    (by_write (view old.end) (view a.end) (view b.end) (view c.end) c.serving.answering.outcome is reads.1 sent got more, made, same_through old.end a.end b.end c.end same same' same'')
-serving_turns false false old a b c pace same same' same'' is serving was none reads paced sent rests got outcome made =
-    let kept = reads.0 ∙ serving in
+pub turns : {S : Type 0} (h : HalfOf S) (came went : Bool) (old a b c : SessionAt S) (pace : Pace) → IsSameEnd old.end a.end → IsSameEnd a.end b.end → IsSameEnd b.end c.end → view a.end ≡ view old.end → a.half ≡ old.half → a.pace ≡ old.pace → h.outcome old.half ≡ None
+    → Reads h came a b → b.pace ≡ a.pace → (view b.end).sent ≡ (view a.end).sent
+    → Writes h went b c → (view c.end).got ≡ (view b.end).got → (IsSome (h.outcome b.half) → IsSome (h.outcome c.half))
+    → IsMade (not (came || went)) pace → Turns h (turned_by (came || went)) old (record { half = c.half; end = c.end; pace = pace })
+turns h true went old a b c pace same same' same'' is half was none reads paced sent writes got outcome made =
+    (by_read (view old.end) (view a.end) (view b.end) (view c.end) (h.outcome b.half) (h.outcome c.half) is reads.0 reads.1 sent got (went_on h went b c writes) outcome, made, same_through old.end a.end b.end c.end same same' same'')
+turns h false true old a b c pace same same' same'' is half was none reads paced sent more got outcome made =
+    (by_write (view old.end) (view a.end) (view b.end) (view c.end) (h.outcome c.half) is reads.1 sent got more, made, same_through old.end a.end b.end c.end same same' same'')
+turns h false false old a b c pace same same' same'' is half was none reads paced sent rests got outcome made =
+    let kept = reads.0 ∙ half in
     let got_is = reads.1 ∙ ap (λ v. v.got) is in
     let sent_is = sent ∙ ap (λ v. v.sent) is in (
-      (got ∙ got_is, rests.0 ∙ sent_is, rests.1 ∙ (ap (λ k. k.answering.outcome) kept ∙ none)),
+      (got ∙ got_is, rests.0 ∙ sent_is, rests.1 ∙ (ap h.outcome kept ∙ none)),
       made,
-      by_none (HasNothing b) (HasNothing old) c.serving.answering.waiting b.pace.peer_shut old.pace.peer_shut old.end a.end b.end c.end same same' same'' is reads.2 (answers_still old b kept got_is sent_is)
+      by_none (HasNothing h b) (HasNothing h old) (h.waiting c.half) b.pace.peer_shut old.pace.peer_shut old.end a.end b.end c.end same same' same'' is reads.2 (still_nothing h old b kept got_is sent_is)
           (ap (λ p. p.peer_shut) (paced ∙ was)) rests.2,
     )
 

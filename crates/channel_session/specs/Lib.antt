@@ -1,3 +1,2 @@
-pub mod Calling
-pub mod Answering
 pub mod Turning
+pub mod Session

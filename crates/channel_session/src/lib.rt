@@ -10,7 +10,9 @@
 mod caller;
 mod pause;
 mod serving;
+mod session;
 
 pub use caller::{CallerEnd, CallerSession};
 pub use pause::Turned;
 pub use serving::{ServingEnd, ServingSession};
+pub use session::Session;

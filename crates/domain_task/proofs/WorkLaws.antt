@@ -13,10 +13,11 @@ use Rattle.task_duties.specs.declared.done.ControlEnd.{ControlEnd}
 use Rattle.task_duties.specs.Hostile.Given.{HostilePlan}
 use Rattle.channel_session.specs.declared.pause.Turned.{Turned}
 use Rattle.channel_session.specs.declared.pause.Turned.TheVariants.{Moved, Quiet, Passed}
-use Rattle.channel_session.specs.Calling.{CallerAt, CallerTurns}
-use Rattle.channel_session.specs.Answering.{ServingAt, ServingTurns}
+use Rattle.qrexec_data.specs.Half.{HalfOf}
+use Rattle.qrexec_data.specs.CallerSide.{caller_half}
+use Rattle.channel_session.specs.Session.{SessionAt, Turns, builtin_half}
 use Rattle.channel_session.specs.Turning.{KeepsBytes, HasMoved as BytesMoved}
-use Rattle.channel_session.proofs.KeepingLaws.{caller_keeps, serving_keeps}
+use Rattle.channel_session.proofs.KeepingLaws.{turn_keeps}
 use Rattle.agent_slots.specs.Sessions.{Session, NotBegun, CallsWith, AwaitsPage, ServesWith, EndedWith, session_at, is_open, got_in, sent_in, TakesTurn}
 use Rattle.agent_slots.specs.Sessions as by
 use Rattle.agent_control.specs.declared.control.AgentControl.{AgentControl}
@@ -137,15 +138,10 @@ moved_bytes before now outcome moved none = by_more moved.more
     by_more (inr (inl more)) = omega (arith, more, moved.kept.got)
     by_more (inr (inr over)) = absurd (false≢true (subst (λ (o : Option Outcome). IsSome o) none over))
 
-caller_moves : (turned : Turned) (before now : CallerAt) → CallerTurns turned before now → now.caller.replies.outcome ≡ None → (bytes_on before.end < bytes_on now.end) ⊎ (turned ≢ Moved)
-caller_moves Moved before now h none = inl (moved_bytes (view before.end) (view now.end) now.caller.replies.outcome h.0 none)
-caller_moves Quiet before now h none = inr (not_moved Quiet (inl refl))
-caller_moves Passed before now h none = inr (not_moved Passed (inr refl))
-
-serving_moves : (turned : Turned) (before now : ServingAt) → ServingTurns turned before now → now.serving.answering.outcome ≡ None → (bytes_on before.end < bytes_on now.end) ⊎ (turned ≢ Moved)
-serving_moves Moved before now h none = inl (moved_bytes (view before.end) (view now.end) now.serving.answering.outcome h.0 none)
-serving_moves Quiet before now h none = inr (not_moved Quiet (inl refl))
-serving_moves Passed before now h none = inr (not_moved Passed (inr refl))
+turn_moves : {S : Type 0} (h : HalfOf S) (turned : Turned) (before now : SessionAt S) → Turns h turned before now → h.outcome now.half ≡ None → (bytes_on before.end < bytes_on now.end) ⊎ (turned ≢ Moved)
+turn_moves h Moved before now turn none = inl (moved_bytes (view before.end) (view now.end) (h.outcome now.half) turn.0 none)
+turn_moves h Quiet before now turn none = inr (not_moved Quiet (inl refl))
+turn_moves h Passed before now turn none = inr (not_moved Passed (inr refl))
 
 -- the number of a session that is open is that of its bytes, and two more at most
 open_worth : (session : Session) → is_open session ≡ true → work_in session ≤ length (got_in session) + length (sent_in session) + 2
@@ -153,23 +149,22 @@ open_worth NotBegun is = absurd (false≢true is)
 open_worth (EndedWith end) is = absurd (false≢true is)
 open_worth _ is = omega arith
 
+-- a side that makes a turn
+turn_works : {S : Type 0} (h : HalfOf S) (turned : Turned) (before now : SessionAt S) (old new : Session) → Turns h turned before now → h.outcome now.half ≡ None → work_in old ≡ bytes_on before.end + 2 → work_in new ≡ bytes_on now.end + 2
+    → (turned ≢ Moved → SessionRests old new) → Works_or (work_in old) (work_in new) (SessionRests old new)
+turn_works h turned before now old new did none a b rests = by_bytes (turn_keeps h turned before now did) (turn_moves h turned before now did none)
+  where
+    by_bytes : KeepsBytes (view before.end) (view now.end) → (bytes_on before.end < bytes_on now.end) ⊎ (turned ≢ Moved) → Works_or (work_in old) (work_in new) (SessionRests old new)
+    by_bytes keeps (inl more) = (omega (arith, a, b, more), inl (omega (arith, a, b, more)))
+    by_bytes keeps (inr still) = (omega (arith, a, b, keeps.got, keeps.sent), inr (rests still))
+
 -- a session that takes its turn
 session_works : (old new : Session) → TakesTurn old new → Works_or (work_in old) (work_in new) (SessionRests old new)
 session_works old new (by.HadNotBegun was is) =
     let a : work_in old ≡ 0 = ap work_in was in
     let b : work_in new ≡ 0 = ap work_in is in (omega (arith, a, b), inr (HasNotBegun was is))
-session_works old new (by.CallMade before now turned was is did none) = joined (ap work_in was) (ap work_in is) (caller_keeps turned before now did) (caller_moves turned before now did none)
-  where
-    joined : work_in old ≡ bytes_on before.end + 2 → work_in new ≡ bytes_on now.end + 2 → KeepsBytes (view before.end) (view now.end) → (bytes_on before.end < bytes_on now.end) ⊎ (turned ≢ Moved)
-        → Works_or (work_in old) (work_in new) (SessionRests old new)
-    joined a b keeps (inl more) = (omega (arith, a, b, more), inl (omega (arith, a, b, more)))
-    joined a b keeps (inr rests) = (omega (arith, a, b, keeps.got, keeps.sent), inr (CallerRests before now turned was is did rests))
-session_works old new (by.ServingMade before now turned was is did none) = joined (ap work_in was) (ap work_in is) (serving_keeps turned before now did) (serving_moves turned before now did none)
-  where
-    joined : work_in old ≡ bytes_on before.end + 2 → work_in new ≡ bytes_on now.end + 2 → KeepsBytes (view before.end) (view now.end) → (bytes_on before.end < bytes_on now.end) ⊎ (turned ≢ Moved)
-        → Works_or (work_in old) (work_in new) (SessionRests old new)
-    joined a b keeps (inl more) = (omega (arith, a, b, more), inl (omega (arith, a, b, more)))
-    joined a b keeps (inr rests) = (omega (arith, a, b, keeps.got, keeps.sent), inr (ServingRests before now turned was is did rests))
+session_works old new (by.CallMade before now turned was is did none) = turn_works caller_half turned before now old new did none (ap work_in was) (ap work_in is) (CallerRests before now turned was is did)
+session_works old new (by.ServingMade before now turned was is did none) = turn_works builtin_half turned before now old new did none (ap work_in was) (ap work_in is) (ServingRests before now turned was is did)
 session_works old new (by.PageCame before now turned was first is did none) =
     let a : work_in old ≡ 1 = ap work_in was in
     let b : work_in new ≡ bytes_on now.end + 2 = ap work_in is in (omega (arith, a, b), inl (omega (arith, a, b)))

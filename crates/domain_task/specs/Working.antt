@@ -9,8 +9,8 @@ use Rattle.task_pool.specs.declared.task.Turn.TheVariants as turn
 use Rattle.task_duties.specs.declared.done.ControlEnd.{ControlEnd}
 use Rattle.channel_session.specs.declared.pause.Turned.{Turned}
 use Rattle.channel_session.specs.declared.pause.Turned.TheVariants.{Moved}
-use Rattle.channel_session.specs.Calling.{CallerAt, CallerTurns}
-use Rattle.channel_session.specs.Answering.{ServingAt, ServingTurns}
+use Rattle.qrexec_data.specs.CallerSide.{caller_half}
+use Rattle.channel_session.specs.Session.{CallerAt, ServingAt, Turns, builtin_half}
 use Rattle.agent_slots.specs.Sessions.{Session, NotBegun, CallsWith, AwaitsPage, ServesWith, EndedWith, session_at, got_in, sent_in}
 use Rattle.agent_control.specs.declared.control.AgentControl.{AgentControl}
 use Rattle.agent_task.specs.State.{AgentState}
@@ -71,8 +71,8 @@ pub data ChannelRests (old new : AgentState) : Type 0 where
 
 -- a session moved nothing in a turn that it made or passed over; or the page that it awaits didn't come; or it hasn't begun; or it had been over
 pub data SessionRests (old new : Session) : Type 0 where
-  CallerRests : (before now : CallerAt) (turned : Turned) → old ≡ CallsWith before → new ≡ CallsWith now → CallerTurns turned before now → turned ≢ Moved → SessionRests old new
-  ServingRests : (before now : ServingAt) (turned : Turned) → old ≡ ServesWith before → new ≡ ServesWith now → ServingTurns turned before now → turned ≢ Moved → SessionRests old new
+  CallerRests : (before now : CallerAt) (turned : Turned) → old ≡ CallsWith before → new ≡ CallsWith now → Turns caller_half turned before now → turned ≢ Moved → SessionRests old new
+  ServingRests : (before now : ServingAt) (turned : Turned) → old ≡ ServesWith before → new ≡ ServesWith now → Turns builtin_half turned before now → turned ≢ Moved → SessionRests old new
   PageAwaited : old ≡ AwaitsPage → new ≡ AwaitsPage → SessionRests old new
   HasNotBegun : old ≡ NotBegun → new ≡ NotBegun → SessionRests old new
   HadEnded : (end : EndView) → old ≡ EndedWith end → new ≡ EndedWith end → SessionRests old new

@@ -56,9 +56,11 @@ pub trait Half: Drop {
         ensures outcome { self.new ≡ half.ended Outcome.Gone self.old }
         ensures ends { Ends half Outcome.Gone self.old self.new };
 
-    /// Returns how the call came out, or `None` if nothing has decided that yet.
+    /// Returns how the call came out, or `None` if nothing has decided that yet. A side that has come
+    /// out is still.
     fn outcome(&self) -> Option<Outcome>
-        ensures { result ≡ half.outcome self.now };
+        ensures is { result ≡ half.outcome self.now }
+        ensures still { IsSome (half.outcome self.now) → half.IsStill self.now };
 
     /// Returns the bytes of all pieces that were taken while there was no outcome.
     fn got(&self) -> &[u8]

@@ -11,14 +11,12 @@ use Rattle.vchan_protocol.specs.Lists.ListCall.{ChannelLists, avail, end_of, fre
 use Rattle.vchan_core.specs.declared.plain.Plain.{Plain}
 use Rattle.service_gate.specs.Triple.{Triple}
 use Rattle.service_gate.specs.Owing.{builtin_owes}
-use Rattle.qrexec_data.specs.Requests.{RequestsState, packed_on}
+use Rattle.qrexec_data.specs.Half.{HalfOf, Keeps, Lends}
+use Rattle.qrexec_data.specs.Requests.{RequestsState}
 use Rattle.qrexec_data.specs.CallerSide as caller
-use Rattle.qrexec_data.specs.CallerSide.{CallerState, CallerStandsFor, LendsRequests}
+use Rattle.qrexec_data.specs.CallerSide.{CallerState, CallerStandsFor, LendsRequests, caller_half}
 use Rattle.qrexec_data.specs.ServingSide as serving
-use Rattle.qrexec_data.specs.ServingSide.{ServingState, ServingStandsFor, LendsAnswers}
-use Rattle.qrexec_data.specs.Answering as answering
-use Rattle.qrexec_data.specs.Answering.{AnsweringState, after_gone, done_if, is_over}
-use Rattle.qrexec_data.proofs.PackLaws.{same_packed}
+use Rattle.qrexec_data.specs.ServingSide.{ServingState, ServingStandsFor, LendsAnswers, serving_half}
 use Rattle.qrexec_data.specs.Reading.{IsByBytes}
 use Rattle.qrexec_data.specs.Laws.{IsVersion}
 use Rattle.service_gate.specs.declared.builtin.Builtin.{Builtin}
@@ -109,19 +107,8 @@ of_waiting false waiting piece count is few =
     let zero : count ≡ 0 = omega (arith, few, ap (λ (xs : List ℕ). length xs) is) in
     (ap (λ (k : ℕ). take k waiting) zero ∙ sym (ap (λ (k : ℕ). take k piece) zero), omega (arith, zero))
 
-pub lent_few : (old lent : CallerState) (piece : List ℕ) (count : ℕ) → LendsRequests old lent piece → count ≤ length piece → count ≤ length lent.requests.waiting
-lent_few old lent piece count lends few = (of_waiting (is_none old.replies.outcome) lent.requests.waiting piece count lends.piece_is few).1
-
-input_if : (b : Bool) (r x y : RequestsState) → x.input ≡ r.input → y.input ≡ r.input → (if b then x else y).input ≡ r.input
-input_if true r x y h k = h
-input_if false r x y h k = k
-
-packed_input : (version : Option ℕ) (r : RequestsState) → (packed_on version r).input ≡ r.input
-packed_input None r = refl
-packed_input (Some version) r = input_if (length r.waiting == 0) r _ _ (input_if r.closed r _ _ refl (input_if (nat_lt r.packed (length r.input)) r _ _ refl refl)) refl
-
-input_stays : (version : Option ℕ) (r : RequestsState) (b : Bool) → (if b then packed_on version r else r).input ≡ r.input
-input_stays version r b = input_if b r _ _ (packed_input version r) refl
+pub lent_few : {S : Type 0} (h : HalfOf S) (old lent : S) (piece : List ℕ) (count : ℕ) → Lends h old lent piece → count ≤ length piece → count ≤ length (h.waiting lent)
+lent_few h old lent piece count lends few = (of_waiting (is_none (h.outcome old)) (h.waiting lent) piece count lends.piece_is few).1
 
 -- ---- the caller
 
@@ -187,19 +174,19 @@ module _ (input : List ℕ) (owed : List ℕ → Triple) (core : Core) (s s' : S
 
   -- it sent what it had
   pub caller_sent : (lent : CallerState) (piece : List ℕ) (count : ℕ) → LendsRequests s.caller lent piece → (piece ≡ []) ↔ caller.IsStill s.caller → Writes core Server piece s'.page count
-      → s'.caller ≡ record lent { requests = record lent.requests { waiting = drop count lent.requests.waiting } } → ((sent : List ℕ) → CallerStandsFor lent sent → CallerStandsFor s'.caller (sent ++ take count lent.requests.waiting))
+      → s'.caller ≡ record lent { requests = record lent.requests { waiting = drop count lent.requests.waiting } } → Keeps caller_half lent s'.caller → ((sent : List ℕ) → CallerStandsFor lent sent → CallerStandsFor s'.caller (sent ++ take count lent.requests.waiting))
       → CallerSends input owed core s s'
-  caller_sent lent piece count lends still w gone stands =
+  caller_sent lent piece count lends still w gone keeps stands =
       let sent : w.after.server.sent ≡ core.server.sent ++ take count piece = ap (λ (l : ChannelLists). l.server.sent) w.lists in
       let waits : take count lent.requests.waiting ≡ take count piece = (of_waiting (is_none s.caller.replies.outcome) lent.requests.waiting piece count lends.piece_is w.few).0 in
       record {
         after = w.after;
         stands = caller_stands input owed core w.after s s' h w.rested other (ap (λ (l : ChannelLists). l.client.sent) w.lists) (ap (λ (l : ChannelLists). l.client.got) w.lists)
-            (subst (λ (xs : List ℕ). CallerStandsFor s'.caller xs) (ap (λ (xs : List ℕ). core.server.sent ++ xs) waits ∙ sym sent) (stands core.server.sent (lends.stands core.server.sent h.calls)))
-            (ap (λ (c : CallerState). c.inbox.got) (gone ∙ ap (λ (c : CallerState). c) refl) ∙ ap (λ (c : CallerState). c.inbox.got) lends.new_is ∙ h.caller_got ∙ sym (ap (λ (l : ChannelLists). l.server.got) w.lists))
-            (ap (λ (c : CallerState). c.requests.input) gone ∙ ap (λ (c : CallerState). c.requests.input) lends.new_is ∙ input_stays s.caller.replies.version s.caller.requests (is_none s.caller.replies.outcome))
-            (ap (λ (c : CallerState). c.replies.own) gone ∙ ap (λ (c : CallerState). c.replies.own) lends.new_is)
-            (subst IsByBytes (sym (ap (λ (c : CallerState). c.replies.outcome) gone ∙ ap (λ (c : CallerState). c.replies.outcome) lends.new_is)) h.caller_read);
+            (subst (λ (xs : List ℕ). CallerStandsFor s'.caller xs) (ap (λ (xs : List ℕ). core.server.sent ++ xs) waits ∙ sym sent) (stands core.server.sent (lends.stands tt core.server.sent h.calls)))
+            (keeps.got ∙ lends.keeps.got ∙ h.caller_got ∙ sym (ap (λ (l : ChannelLists). l.server.got) w.lists))
+            (keeps.same.input ∙ lends.keeps.same.input)
+            (keeps.same.own ∙ lends.keeps.same.own)
+            (subst IsByBytes (sym (ap (λ (c : CallerState). c.replies.outcome) gone ∙ lends.outcome)) h.caller_read);
         other = other;
         same = ap (λ (c : CallerState). c.replies) gone ∙ ap (λ (c : CallerState). c.replies) lends.new_is;
         grows = sent_grows core w.after Server piece count w.few w.lists;
@@ -227,28 +214,6 @@ caller_turned input owed core s m s' r w = record {
     second is = omega (arith, r.grows.more, w.grows.more, is)
 
 -- ---- the side that serves
-
-abbrev Answers : Type 0
-Answers = AnsweringState Builtin
-
--- what went leaves its version, and any outcome that comes of it is one of bytes
-gone_if : (b : Bool) (a x : Answers) → x.own ≡ a.own → IsByBytes x.outcome → IsByBytes a.outcome → ((if b then x else a).own ≡ a.own) × IsByBytes (if b then x else a).outcome
-gone_if true a x own read h = (own, read)
-gone_if false a x own read h = (refl, h)
-
-done_stays : (code : Option ℤ) (a : Answers) → IsByBytes a.outcome → ((done_if code a).own ≡ a.own) × IsByBytes (done_if code a).outcome
-done_stays None a h = (refl, h)
-done_stays (Some code) a h = (refl, tt)
-
-gone_stays : (count : ℕ) (a : Answers) → IsByBytes a.outcome → ((after_gone count a).own ≡ a.own) × IsByBytes (after_gone count a).outcome
-gone_stays count a h =
-    let left : Answers = record a { waiting = drop count a.waiting } in
-    let over = done_stays a.code left h in
-    gone_if (is_over left) left (done_if a.code left) over.0 over.1 h
-
-packed_if : (b : Bool) (a : Answers) → ((if b then answering.packed_on a.version a else a).own ≡ a.own) × ((if b then answering.packed_on a.version a else a).outcome ≡ a.outcome)
-packed_if true a = let same = same_packed a.version a in (same.own, same.outcome)
-packed_if false a = (refl, refl)
 
 serving_stands : (input : List ℕ) (owed : List ℕ → Triple) (core after : Core) (s s' : Sides) → Stands input owed core s → IsRested after s'.page → s'.caller ≡ s.caller → after.server.sent ≡ core.server.sent → after.server.got ≡ core.server.got
     → ServingStandsFor builtin_owes owed s'.serving after.client.sent → s'.serving.inbox.got ≡ after.client.got → s'.serving.answering.own ≡ s.serving.answering.own
@@ -315,21 +280,19 @@ module _ (input : List ℕ) (owed : List ℕ → Triple) (core : Core) (s s' : S
 
   -- it sent what it had
   pub serving_sent : (lent : ServingState Builtin) (piece : List ℕ) (count : ℕ) → LendsAnswers builtin_owes s.serving lent piece → (piece ≡ []) ↔ serving.IsStill s.serving.answering → Writes core Client piece s'.page count
-      → s'.serving ≡ record lent { answering = after_gone count lent.answering } → ((sent : List ℕ) → ServingStandsFor builtin_owes owed lent sent → ServingStandsFor builtin_owes owed s'.serving (sent ++ take count lent.answering.waiting))
+      → Keeps (serving_half builtin_owes) lent s'.serving → (IsByBytes lent.answering.outcome → IsByBytes s'.serving.answering.outcome)
+      → ((sent : List ℕ) → ServingStandsFor builtin_owes owed lent sent → ServingStandsFor builtin_owes owed s'.serving (sent ++ take count lent.answering.waiting))
       → ServingSends input owed core s s'
-  serving_sent lent piece count lends still w gone stands =
+  serving_sent lent piece count lends still w keeps bytes stands =
       let sent : w.after.client.sent ≡ core.client.sent ++ take count piece = ap (λ (l : ChannelLists). l.client.sent) w.lists in
       let waits : take count lent.answering.waiting ≡ take count piece = (of_waiting (is_none s.serving.answering.outcome) lent.answering.waiting piece count lends.piece_is w.few).0 in
-      let packed = packed_if (is_none s.serving.answering.outcome) s.serving.answering in
-      let outcome : lent.answering.outcome ≡ s.serving.answering.outcome = ap (λ (z : ServingState Builtin). z.answering.outcome) lends.new_is ∙ packed.1 in
-      let goes = gone_stays count lent.answering (subst IsByBytes (sym outcome) h.serving_read) in
       record {
         after = w.after;
         stands = serving_stands input owed core w.after s s' h w.rested other (ap (λ (l : ChannelLists). l.server.sent) w.lists) (ap (λ (l : ChannelLists). l.server.got) w.lists)
             (subst (λ (xs : List ℕ). ServingStandsFor builtin_owes owed s'.serving xs) (ap (λ (xs : List ℕ). core.client.sent ++ xs) waits ∙ sym sent) (stands core.client.sent (lends.stands owed core.client.sent h.serves)))
-            (ap (λ (z : ServingState Builtin). z.inbox.got) gone ∙ ap (λ (z : ServingState Builtin). z.inbox.got) lends.new_is ∙ h.serving_got ∙ sym (ap (λ (l : ChannelLists). l.client.got) w.lists))
-            (ap (λ (z : ServingState Builtin). z.answering.own) gone ∙ goes.0 ∙ ap (λ (z : ServingState Builtin). z.answering.own) lends.new_is ∙ packed.0)
-            (subst IsByBytes (sym (ap (λ (z : ServingState Builtin). z.answering.outcome) gone)) goes.1);
+            (keeps.got ∙ lends.keeps.got ∙ h.serving_got ∙ sym (ap (λ (l : ChannelLists). l.client.got) w.lists))
+            (keeps.same.own ∙ lends.keeps.same.own)
+            (bytes (subst IsByBytes (sym lends.outcome) h.serving_read));
         other = other;
         grows = sent_grows core w.after Client piece count w.few w.lists;
         nothing = λ is. by (w.none (omega (arith, sent_done core w.after Client piece count w.few w.lists, is)));
@@ -338,9 +301,6 @@ module _ (input : List ℕ) (owed : List ℕ → Triple) (core : Core) (s s' : S
       by : (piece ≡ []) ⊎ (free (lists_of core) Client ≡ 0) → serving.IsStill s.serving.answering ⊎ (free (lists_of core) Client ≡ 0)
       by (inl none) = inl (still.0 none)
       by (inr full) = inr full
-
-pub serving_few : (old lent : ServingState Builtin) (piece : List ℕ) (count : ℕ) → LendsAnswers builtin_owes old lent piece → count ≤ length piece → count ≤ length lent.answering.waiting
-serving_few old lent piece count lends few = (of_waiting (is_none old.answering.outcome) lent.answering.waiting piece count lends.piece_is few).1
 
 pub serving_turned : (input : List ℕ) (owed : List ℕ → Triple) (core : Core) (s m s' : Sides) (r : ServingReads input owed core s m) → ServingSends input owed r.after m s' → ServingTurns input owed core s s'
 serving_turned input owed core s m s' r w = record {

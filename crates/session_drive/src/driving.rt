@@ -11,7 +11,7 @@ ghost use Rattle.session_drive.specs.Driving.{Answers, Begins, Comes, HasCodes, 
 
 use crate::page::MOST_DRAINED;
 use crate::sides::Sides;
-use qrexec_data::{Caller, CallerParts, Outcome, Serving};
+use qrexec_data::{Caller, CallerParts, Half, Outcome, Serving};
 use ring_words::Orders;
 use service_gate::Builtin;
 use std::alloc::Global;

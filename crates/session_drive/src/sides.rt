@@ -4,7 +4,7 @@ ghost use Rattle.vchan_protocol.specs.History.Core.{Core};
 ghost use Rattle.service_gate.specs.Triple.{Triple};
 
 use crate::page::{drain, write};
-use qrexec_data::{Caller, Serving};
+use qrexec_data::{Caller, Half, Serving};
 use ring_words::Role;
 use service_gate::Builtin;
 use vchan_core::Plain;

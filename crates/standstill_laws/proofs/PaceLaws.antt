@@ -22,9 +22,10 @@ use Rattle.service_gate.specs.declared.builtin.Builtin.{Builtin}
 use Rattle.qrexec_data.specs.CallerSide.{CallerStandsFor}
 use Rattle.qrexec_data.specs.ServingSide.{ServingStandsFor}
 use Rattle.qrexec_data.proofs.GoingLaws.{sessions_go_on_lem}
+use Rattle.channel_session.specs.Session.{HasNothing}
 use Rattle.channel_session.specs.Turning.{IsQuiet, SendsNone, NothingWaits, WasShut, RingIsFull, PeerIsShut}
 use Rattle.standstill_laws.specs.Page.{FoundNothing, StandsStill}
-use Rattle.standstill_laws.specs.Sides.{SideAt, HasNone, HoldsEnd, quiet_by}
+use Rattle.standstill_laws.specs.Sides.{SideAt, half_at, HoldsEnd}
 use Rattle.standstill_laws.specs.Turns.{SendsStill, IsQuietStill}
 use Rattle.standstill_laws.specs.Moments.{AreMoments, IsBetween, WasSo}
 use Rattle.standstill_laws.specs.Pace.{IsGoneStill, IsQuietBetween, FoundBetween, RestsLong, NoSessionRests}
@@ -136,7 +137,7 @@ module _ (first last : Core) (moments : AreMoments first last) (sides : (who : R
   found_at : (mid : Core) → IsBetween first last mid → (who : Role) → FoundNothing mid who
   found_at mid is who =
       let f = (quiet who).found.found in
-      let q = quiet_by who (quiet who).before (quiet who).now (quiet who).turn in
+      let q = (quiet who).turn.2 in
       (keeps f.left.0 mid f.left.1 is).nothing who (found_nothing f.left.0 who q f.left.1.since.moments.lawful_now (still_then first last keeps who q f))
 
   -- the page stands still at each moment between
@@ -144,10 +145,10 @@ module _ (first last : Core) (moments : AreMoments first last) (sides : (who : R
   page_at mid is = stands_still mid is.since.moments.lawful_now (found_at mid is Server) (found_at mid is Client)
 
   -- neither side has anything to send
-  none_waits : (who : Role) → HasNone who (quiet who).before
+  none_waits : (who : Role) → HasNothing (half_at who) (quiet who).before
   none_waits who =
       let f = (quiet who).found.found in
-      let q = quiet_by who (quiet who).before (quiet who).now (quiet who).turn in
+      let q = (quiet who).turn.2 in
       nothing_waits f.left.0 who q f.left.1.since.moments.lawful_now (page_at f.left.0 f.left.1) (not_shut first last f.left.0 f.left.1 (peer who) (open_unshut (side_of last (peer who)).state (opens (peer who)).is)) (still_then first last keeps who q f)
 
   both_rest : ⊥
@@ -157,23 +158,23 @@ module _ (first last : Core) (moments : AreMoments first last) (sides : (who : R
       let page = page_at last (last_between first last moments rested) in
       let up = end_bytes Server (sides Server).to last.server (sides Server).last_held.2 in
       let down = end_bytes Client (sides Client).to last.client (sides Client).last_held.2 in
-      sessions_go_on_lem Builtin builtin_owes (builtin_owes y.found.stands.1.0) x.before.caller y.before.serving last.server.sent last.client.sent
+      sessions_go_on_lem Builtin builtin_owes y.found.stands.1.0 x.before.half y.before.half last.server.sent last.client.sent
       (record {
-        calls = subst (λ (sent : List ℕ). CallerStandsFor x.before.caller sent) (sym x.same.1 ∙ up.1) x.found.stands.stands;
-        serves = subst (λ (sent : List ℕ). ServingStandsFor builtin_owes (builtin_owes y.found.stands.1.0) y.before.serving sent) (sym y.same.1 ∙ down.1) y.found.stands.1.1.stands;
-        caller_got = x.found.stands.got ∙ sym x.same.0 ∙ up.0 ∙ page.server_got;
+        calls = subst (λ (sent : List ℕ). CallerStandsFor x.before.half sent) (sym x.same.1 ∙ up.1) x.found.stands.1.1.stands;
+        serves = subst (λ (sent : List ℕ). ServingStandsFor builtin_owes y.found.stands.1.0 y.before.half sent) (sym y.same.1 ∙ down.1) y.found.stands.1.1.stands;
+        caller_got = x.found.stands.1.1.got ∙ sym x.same.0 ∙ up.0 ∙ page.server_got;
         serving_got = y.found.stands.1.1.got ∙ sym y.same.0 ∙ down.0 ∙ page.client_got;
         caller_version = x.found.version;
         serving_version = y.found.version;
         caller_undecided = x.undecided (sides Server).first_held.1;
         serving_undecided = y.undecided (sides Client).first_held.1;
-      }) (none_waits Server, none_waits Client (builtin_owes y.found.stands.1.0) y.found.stands.1.1)
+      }) (none_waits Server tt x.found.stands.1.1, none_waits Client y.found.stands.1.0 y.found.stands.1.1)
 
 pub no_session_rests_lem : NoSessionRests
 no_session_rests_lem = record {
   both = both_rest;
   alone = λ first last who n from to rests long.
       let x = quiet_one who (FoundBetween first last who) n from to rests long in
-      let q = quiet_by who x.before x.now x.turn in
+      let q = x.turn.2 in
       peer_was_there first last who q.found q.left q.not_yet x.found.found.here;
 }

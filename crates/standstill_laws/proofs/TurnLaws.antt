@@ -89,17 +89,17 @@ nothing_waits core who q lawful page there h = sends_nothing core who lawful pag
 
 pub no_session_stands_still_lem : NoSessionStandsStill
 no_session_stands_still_lem core owed c c' s s' b =
-    sessions_go_on_lem Builtin builtin_owes owed c.caller s.serving core.server.sent core.client.sent
+    sessions_go_on_lem Builtin builtin_owes owed c.half s.half core.server.sent core.client.sent
     (record {
-      calls = subst (λ sent. CallerStandsFor c.caller sent) (sym b.caller.turn.0.1 ∙ ap (λ (x : Side). x.sent) b.caller.still.is_now) b.calls.stands;
-      serves = subst (λ sent. ServingStandsFor builtin_owes owed s.serving sent) (sym b.serving.turn.0.1 ∙ ap (λ (x : Side). x.sent) b.serving.still.is_now) b.serves.stands;
+      calls = subst (λ sent. CallerStandsFor c.half sent) (sym b.caller.turn.0.1 ∙ ap (λ (x : Side). x.sent) b.caller.still.is_now) b.calls.stands;
+      serves = subst (λ sent. ServingStandsFor builtin_owes owed s.half sent) (sym b.serving.turn.0.1 ∙ ap (λ (x : Side). x.sent) b.serving.still.is_now) b.serves.stands;
       caller_got = b.calls.got ∙ sym b.caller.turn.0.0 ∙ ap (λ (x : Side). x.got) b.caller.still.is_now ∙ page.server_got;
       serving_got = b.serves.got ∙ sym b.serving.turn.0.0 ∙ ap (λ (x : Side). x.got) b.serving.still.is_now ∙ page.client_got;
       caller_version = b.caller_version;
       serving_version = b.serving_version;
       caller_undecided = b.caller.undecided;
       serving_undecided = b.serving.undecided;
-    }) (nothing_waits core Server b.caller.turn.2 b.lawful page b.serving.opened b.caller.still, nothing_waits core Client b.serving.turn.2 b.lawful page b.caller.opened b.serving.still owed b.serves)
+    }) (nothing_waits core Server b.caller.turn.2 b.lawful page b.serving.opened b.caller.still tt b.calls, nothing_waits core Client b.serving.turn.2 b.lawful page b.caller.opened b.serving.still owed b.serves)
   where
     page : StandsStill core
     page = stands_still core b.lawful (found_nothing core Server b.caller.turn.2 b.lawful b.caller.still) (found_nothing core Client b.serving.turn.2 b.lawful b.serving.still)

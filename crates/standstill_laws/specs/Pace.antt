@@ -12,7 +12,7 @@ use Rattle.qrexec_data.specs.Laws.{IsVersion}
 use Rattle.channel_session.specs.declared.pause.Turned.TheVariants.{Quiet}
 use Rattle.channel_session.specs.Turning.{IsQuiet}
 use Rattle.standstill_laws.specs.Page.{AreIndices}
-use Rattle.standstill_laws.specs.Sides.{SideAt, own_of, SideStands, HoldsEnd, SideTurns, quiet_by, SideRests}
+use Rattle.standstill_laws.specs.Sides.{SideAt, half_at, SideStands, HoldsEnd, SideTurns, SideRests}
 use Rattle.standstill_laws.specs.Turns.{SendsStill}
 use Rattle.standstill_laws.specs.Moments.{AreMoments, WasSo}
 
@@ -30,8 +30,8 @@ pub record IsQuietBetween (first last : Core) (who : Role) {still : Type 0} {wai
 -- a quiet turn of a side of a session, whose parts agree, found that
 pub record FoundBetween (first last : Core) (who : Role) (before now : SideAt who) (turn : SideTurns who Quiet before now) : Type 0 where
   pub stands : SideStands who before
-  pub version : IsVersion (own_of who before)
-  pub found : IsQuietBetween first last who (quiet_by who before now turn)
+  pub version : IsVersion ((half_at who).own before.half)
+  pub found : IsQuietBetween first last who turn.2
 
 -- a side of an open session that made eight turns or more in which nothing moved, between these moments of its page
 pub record RestsLong (first last : Core) (who : Role) : Type 0 where

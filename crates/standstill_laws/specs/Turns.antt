@@ -10,12 +10,12 @@ use Rattle.vchan_protocol.specs.Answering.Loads.{loads_of}
 use Rattle.vchan_protocol.specs.History.Core.{Core, side_of, standing_of}
 use Rattle.vchan_protocol.specs.Honest.Lawful.{Lawful}
 use Rattle.vchan_rule.specs.Seated.{SeatedEnd}
+use Rattle.qrexec_data.specs.CallerSide.{caller_half}
 use Rattle.channel_session.specs.declared.pause.Turned.TheVariants.{Quiet}
 use Rattle.channel_session.specs.Turning.{IsQuiet, SendsNone, NothingWaits, WasShut, RingIsFull, PeerIsShut}
-use Rattle.channel_session.specs.Calling.{CallerAt, IsCalling}
-use Rattle.channel_session.specs.Answering.{ServingAt, IsAnswering}
+use Rattle.channel_session.specs.Session.{CallerAt, ServingAt, StandsOn, builtin_half}
 use Rattle.standstill_laws.specs.Page.{AreIndices, IsLiveStill}
-use Rattle.standstill_laws.specs.Sides.{SideAt, IsUndecided, SideTurns, quiet_by}
+use Rattle.standstill_laws.specs.Sides.{SideAt, IsUndecided, SideTurns}
 use Rattle.qrexec_data.specs.Laws.{IsVersion}
 
 -- why nothing went is still so: the indices that the write answered with, or the live byte that it loaded, are those of the page
@@ -36,15 +36,15 @@ pub record SideIsQuiet (core : Core) (who : Role) (before now : SideAt who) : Ty
   pub opened : (side_of core who).state ≢ Shut
   pub undecided : IsUndecided who before
   pub turn : SideTurns who Quiet before now
-  pub still : IsQuietStill core who (quiet_by who before now turn)
+  pub still : IsQuietStill core who turn.2
 
 -- so did both sides of a session between honest ends
 pub record BothAreQuiet (core : Core) (owed : List ℕ → Triple) (c c' : CallerAt) (s s' : ServingAt) : Type 0 where
   pub lawful : Lawful core
-  pub calls : IsCalling c.caller c.end
-  pub serves : IsAnswering owed s.serving s.end
-  pub caller_version : IsVersion c.caller.replies.own
-  pub serving_version : IsVersion s.serving.answering.own
+  pub calls : StandsOn caller_half tt c.half c.end
+  pub serves : StandsOn builtin_half owed s.half s.end
+  pub caller_version : IsVersion c.half.replies.own
+  pub serving_version : IsVersion s.half.answering.own
   pub caller : SideIsQuiet core Server c c'
   pub serving : SideIsQuiet core Client s s'
 

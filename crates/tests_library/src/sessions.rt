@@ -5,7 +5,7 @@ mod sending;
 mod services;
 mod streams;
 
-use qrexec_data::{Caller, Serving};
+use qrexec_data::{Caller, Half, Serving};
 use qrexec_frame::{Channel, Decoder};
 use service_gate::{Builtin, Service};
 use std::alloc::Global;
@@ -60,8 +60,8 @@ pub(crate) fn builtin(name: &[u8]) -> Result<Builtin, Fail> {
     Ok(Builtin::named(name).ok_or("no service of this name")?)
 }
 
-/// All that a caller sends now, reported in steps of at most `most` bytes.
-pub(crate) fn caller_sends(side: &mut Caller, out: &mut Vec<u8>, most: usize) -> Result<(), Fail> {
+/// All that a side sends now, reported in steps of at most `most` bytes.
+pub(crate) fn sends(side: &mut impl Half, out: &mut Vec<u8>, most: usize) -> Result<(), Fail> {
     for _ in 0..1_000 {
         let piece = side.front()?;
         if piece.is_empty() {
@@ -70,22 +70,6 @@ pub(crate) fn caller_sends(side: &mut Caller, out: &mut Vec<u8>, most: usize) ->
         let count = piece.len().min(most);
         out.extend_from_slice(&piece[..count])?;
         side.advance(count);
-    }
-    Ok(())
-}
-
-/// All that a side that serves sends now, reported in single bytes.
-pub(crate) fn serving_sends<S: Service>(
-    side: &mut Serving<S>,
-    out: &mut Vec<u8>,
-) -> Result<(), Fail> {
-    for _ in 0..1_000 {
-        let piece = side.front()?;
-        if piece.is_empty() {
-            break;
-        }
-        out.push(piece[0])?;
-        side.advance(1);
     }
     Ok(())
 }
@@ -112,7 +96,7 @@ fn answers_of<S: Service>(
         side.take(&[*byte])?;
     }
     let mut out = Vec::new(alloc);
-    serving_sends(side, &mut out)?;
+    sends(side, &mut out, 1)?;
     lines_of(alloc, &out)
 }
 

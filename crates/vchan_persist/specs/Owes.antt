@@ -85,7 +85,7 @@ ClientHands page (Call stdin) done = CallerHands page stdin done
 ClientHands page (Hostile seed stores) done = ScribblerHands page seed stores done
 
 abbrev pub epoch_owes : EpochTask → SideDone → Type 0
-epoch_owes (Calls s) done = CallerHands s.end.page s.caller.requests.input done
+epoch_owes (Calls s) done = CallerHands s.end.page s.half.requests.input done
 epoch_owes (Scribbles s) done = ScribblerHands s.page s.seed s.stores done
 epoch_owes (Serves s) done = ServerHands s.session.end.page s.service done
 epoch_owes (Over was) done = done ≡ was

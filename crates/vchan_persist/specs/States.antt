@@ -3,7 +3,7 @@
 use Rattle.std.specs.Prelude.{ℕ}
 use Rattle.atomic_table.specs.Seated.{TableId}
 use Rattle.service_gate.specs.declared.builtin.Builtin.{Builtin}
-use Rattle.channel_session.specs.Answering.{ServingAt}
+use Rattle.channel_session.specs.Session.{ServingAt}
 
 -- a hostile client before its only turn: the page of its end, and its stores
 pub record ScribblingState : Type 0 where

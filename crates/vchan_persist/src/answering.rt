@@ -20,14 +20,14 @@ impl<'p> Model for Answering<'p> {
     ghost use Rattle.std.specs.Prelude.{◌≡◌, ◌<◌, None, length};
     ghost use Rattle.ring_words.specs.declared.page.Role.TheVariants.{Server};
     ghost use Rattle.service_gate.specs.Owing.{builtin_owes};
-    ghost use Rattle.channel_session.specs.Answering.{IsAnswering, IsAtWork};
+    ghost use Rattle.channel_session.specs.Session.{IsAtWork, StandsOn, builtin_half};
     ghost use Rattle.vchan_persist.specs.States.{AnsweringState};
 
     ghost Value = { AnsweringState };
 
     ghost view = { λ a. record { session = a.session; service = a.service.value } };
 
-    ghost invariant = { λ a. IsAtWork a.session.serving a.session.end × IsAnswering (builtin_owes a.service.value) a.session.serving a.session.end × (a.session.serving.answering.outcome ≡ None) × (a.session.serving.answering.own ≡ 3) × (a.session.end.side.role ≡ Server) × (0 < length a.room.items) };
+    ghost invariant = { λ a. IsAtWork builtin_half a.session.half a.session.end × StandsOn builtin_half (builtin_owes a.service.value) a.session.half a.session.end × (a.session.half.answering.outcome ≡ None) × (a.session.half.answering.own ≡ 3) × (a.session.end.side.role ≡ Server) × (0 < length a.room.items) };
 }
 
 impl<'p> Answering<'p> {
@@ -35,16 +35,16 @@ impl<'p> Answering<'p> {
     ghost use Rattle.ring_words.specs.declared.page.Role.TheVariants.{Server};
     ghost use Rattle.task_pool.specs.Owes.{Pays};
     ghost use Rattle.service_gate.specs.Owing.{builtin_owes};
-    ghost use Rattle.channel_session.specs.Answering.{IsAnswering, IsAtWork};
+    ghost use Rattle.channel_session.specs.Session.{IsAtWork, StandsOn, builtin_half};
     ghost use Rattle.vchan_persist.specs.Owes.{epoch_owes};
     ghost use Rattle.vchan_persist.specs.Tasks.{EpochTurns};
 
     /// Returns the task of such a session with this service, and with some room.
     pub(crate) fn new(session: ServingSession<'p>, service: Builtin, room: Vec<u8>) -> Answering<'p>
-        requires work { IsAtWork session.serving session.end }
-        requires answering { IsAnswering (builtin_owes service) session.serving session.end }
-        requires undecided { session.serving.answering.outcome ≡ None }
-        requires own { session.serving.answering.own ≡ 3 }
+        requires work { IsAtWork builtin_half session.half session.end }
+        requires stands { StandsOn builtin_half (builtin_owes service) session.half session.end }
+        requires undecided { session.half.answering.outcome ≡ None }
+        requires own { session.half.answering.own ≡ 3 }
         requires server { session.end.side.role ≡ Server }
         requires some { 0 < length room.items }
         ensures { result ≡ record { session = session.entry; service = service } }

@@ -15,28 +15,31 @@ pub(crate) struct Calling<'p> {
 impl<'p> Model for Calling<'p> {
     ghost use Rattle.std.specs.Prelude.{◌≡◌, ◌<◌, None, length};
     ghost use Rattle.ring_words.specs.declared.page.Role.TheVariants.{Client};
-    ghost use Rattle.channel_session.specs.Calling.{CallerAt, IsCalling};
+    ghost use Rattle.qrexec_data.specs.CallerSide.{caller_half};
+    ghost use Rattle.channel_session.specs.Session.{CallerAt, IsAtWork, StandsOn};
 
     ghost Value = { CallerAt };
 
     ghost view = { λ c. c.session };
 
-    ghost invariant = { λ c. IsCalling c.session.caller c.session.end × (c.session.caller.replies.outcome ≡ None) × (c.session.caller.replies.own ≡ 3) × (c.session.end.side.role ≡ Client) × (0 < length c.room.items) };
+    ghost invariant = { λ c. IsAtWork caller_half c.session.half c.session.end × StandsOn caller_half tt c.session.half c.session.end × (c.session.half.replies.outcome ≡ None) × (c.session.half.replies.own ≡ 3) × (c.session.end.side.role ≡ Client) × (0 < length c.room.items) };
 }
 
 impl<'p> Calling<'p> {
     ghost use Rattle.std.specs.Prelude.{◌≡◌, ◌<◌, None, length};
     ghost use Rattle.ring_words.specs.declared.page.Role.TheVariants.{Client};
     ghost use Rattle.task_pool.specs.Owes.{Pays};
-    ghost use Rattle.channel_session.specs.Calling.{IsCalling};
+    ghost use Rattle.qrexec_data.specs.CallerSide.{caller_half};
+    ghost use Rattle.channel_session.specs.Session.{IsAtWork, StandsOn};
     ghost use Rattle.vchan_persist.specs.Owes.{epoch_owes};
     ghost use Rattle.vchan_persist.specs.Tasks.{EpochTurns};
 
     /// Returns the task of such a session, with some room.
     pub(crate) fn new(session: CallerSession<'p>, room: Vec<u8>) -> Calling<'p>
-        requires calling { IsCalling session.caller session.end }
-        requires undecided { session.caller.replies.outcome ≡ None }
-        requires own { session.caller.replies.own ≡ 3 }
+        requires work { IsAtWork caller_half session.half session.end }
+        requires stands { StandsOn caller_half tt session.half session.end }
+        requires undecided { session.half.replies.outcome ≡ None }
+        requires own { session.half.replies.own ≡ 3 }
         requires client { session.end.side.role ≡ Client }
         requires some { 0 < length room.items }
         ensures { result ≡ session.entry }

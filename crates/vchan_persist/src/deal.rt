@@ -76,7 +76,7 @@ fn answering<'p>(
     requires some { 0 < length room.items }
     ensures { Owes result (ServerHands page.now.table service) }
 {
-    let session = ServingSession::of_open(serving, page.attach(seat));
+    let session = ServingSession::new(serving, page.attach(seat));
     EpochTask::Serves(Answering::new(session, service, room))
 }
 

@@ -1,6 +1,6 @@
 //! Calls passed between both sides.
 use crate::sessions::{HELLO, builtin, bytes_of, caller, count_of, serving};
-use qrexec_data::{Caller, Outcome, Serving};
+use qrexec_data::{Caller, Half, Outcome, Serving};
 use service_gate::Service;
 use std::alloc::Global;
 use std::process::Abort;

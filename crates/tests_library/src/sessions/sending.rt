@@ -1,20 +1,18 @@
 //! What one side sends, and when it is over.
-use crate::sessions::{
-    HELLO, answered, builtin, bytes_of, caller, caller_sends, lines_of, serving,
-};
-use qrexec_data::{Caller, Outcome, Serving};
+use crate::sessions::{HELLO, answered, builtin, bytes_of, caller, lines_of, sends, serving};
+use qrexec_data::{Caller, Half, Outcome, Serving};
 use service_gate::Service;
 use std::alloc::Global;
 use std::test::Fail;
 
 /// Whether a caller of `hello` sends its greeting, and its input after it is greeted.
 fn sends_hello(alloc: Global, side: &mut Caller, out: &mut Vec<u8>) -> Result<bool, Fail> {
-    caller_sends(side, out, 5)?;
+    sends(side, out, 5)?;
     if lines_of(alloc, out)?.as_str() != "hello 3;" {
         return Ok(false);
     }
     side.take(&bytes_of(alloc, &[HELLO])?)?;
-    caller_sends(side, out, 3)?;
+    sends(side, out, 3)?;
     Ok(lines_of(alloc, out)?.as_str() == "hello 3;stdin 2 6865;stdin 2 6c6c;stdin 1 6f;stdin 0 -;")
 }
 

@@ -3,7 +3,7 @@ ghost use Rattle.std.specs.Prelude.{[], pos};
 
 use crate::services::Greeting;
 use crate::sessions::{HELLO, answered, bytes_of, serving};
-use qrexec_data::Serving;
+use qrexec_data::{Half, Serving};
 use service_gate::{Boxed, Service};
 use std::alloc::Global;
 use std::test::Fail;

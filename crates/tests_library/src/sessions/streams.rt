@@ -1,6 +1,6 @@
 //! Streams of bytes from outside, and how the side that takes them comes out.
 use crate::sessions::{HELLO, builtin, bytes_of, caller, serving};
-use qrexec_data::{Caller, Outcome, Serving};
+use qrexec_data::{Half, Outcome};
 use service_gate::Service;
 use std::alloc::Global;
 use std::process::Abort;
@@ -130,15 +130,9 @@ const STREAMS: [Row; 18] = [
     (Side::Serving, &[], End::Gone, "Some(Gone)"),
 ];
 
-/// How a caller that takes these bytes in pieces of at most `most` comes out.
-fn called(alloc: Global, bytes: &[u8], most: usize, end: End) -> Result<Option<Outcome>, Fail> {
-    let mut side = caller(alloc, b"", 3, 1)?;
-    called_by(&mut side, bytes, most, end)
-}
-
-/// The same of this caller, which is dropped at one place.
-fn called_by(
-    side: &mut Caller,
+/// How a side that takes these bytes in pieces of at most `most` comes out.
+fn outcome_of(
+    side: &mut impl Half,
     bytes: &[u8],
     most: usize,
     end: End,
@@ -154,7 +148,13 @@ fn called_by(
     Ok(side.outcome())
 }
 
-/// The same of a side that serves.
+/// How a caller comes out.
+fn called(alloc: Global, bytes: &[u8], most: usize, end: End) -> Result<Option<Outcome>, Fail> {
+    let mut side = caller(alloc, b"", 3, 1)?;
+    outcome_of(&mut side, bytes, most, end)
+}
+
+/// How a side that serves comes out.
 fn served<S: Service>(
     alloc: Global,
     service: S,
@@ -163,25 +163,7 @@ fn served<S: Service>(
     end: End,
 ) -> Result<Option<Outcome>, Fail> {
     let mut side = serving(alloc, service, 3, 1)?;
-    served_by(&mut side, bytes, most, end)
-}
-
-/// The same of this side.
-fn served_by<S: Service>(
-    side: &mut Serving<S>,
-    bytes: &[u8],
-    most: usize,
-    end: End,
-) -> Result<Option<Outcome>, Fail> {
-    for piece in bytes.chunks(most.max(1)) {
-        side.take(piece)?;
-    }
-    match end {
-        End::Open => {}
-        End::Closed => side.closed(),
-        End::Gone => side.gone(),
-    }
-    Ok(side.outcome())
+    outcome_of(&mut side, bytes, most, end)
 }
 
 fn check_streams(rt: &impl Abort, alloc: Global, rows: &[Row]) -> Result<(), Fail> {

@@ -31,7 +31,7 @@ returns-in-Calls-clause-stage c = λ version stage.
     let session = c.in-Calls.session in
     let was : IsStage version (Calls c.in-Calls.number c.in-Calls.input c.in-Calls.side session) = subst P c.in-Calls.is stage in
     caller_over version c.in-Calls.input.value.items c.in-Calls.side c.finish-end.result ended.done last c.finish-end.ensures.view
-    (subst (λ i. CallerOwes version i ended.done last) was.2 (subst (λ v. CallerOwes v session.caller.requests.input ended.done last) was.1 c.finish-done.ensures.owed))
+    (subst (λ i. CallerOwes version i ended.done last) was.3 (subst (λ v. CallerOwes v session.half.requests.input ended.done last) was.1 (c.finish-done.ensures.owed was.2)))
 
 pub returns-in-Serves-clause-stage : goal.returns-in-Serves-clause-stage
 returns-in-Serves-clause-stage c = λ version stage name is_service.

@@ -14,7 +14,7 @@ same_number a b is fits = ap (λ (z : ℤ). cast_signed w32 (cast_unsigned w32 z
 
 pub returns-clause-ends : goal.returns-clause-ends
 returns-clause-ends c = λ t fits end. (
-  same_number c.in-Done.code t.code (same_code _ _ (ap (λ o. Some o) (sym c.in-Done.is) ∙ sym c.in-Some.is ∙ c.outcome.ensures ∙ end.code)) fits,
+  same_number c.in-Done.code t.code (same_code _ _ (ap (λ o. Some o) (sym c.in-Done.is) ∙ sym c.in-Some.is ∙ c.outcome.ensures.is ∙ end.code)) fits,
   c.into_parts-stdout.ensures.outputs.0 ∙ end.stdout,
   c.into_parts-stdout.ensures.outputs.1 ∙ end.stderr,
 )

@@ -16,7 +16,7 @@ returns-then-is_some c = λ input service core codes h.
     let on = c.loop-round.invariant.on input service core codes h in
     let turned = c.in_ok-turn_caller.ensures.turns input (builtin_owes service) on.core on.stands c.loop-round.invariant.undecided in
     let some = some_is c.outcome.result (sym c.is_some.ensures ∙ c.if-is_some.true) in
-    record { core = turned.after; stands = turned.stands; ends = ends_with input service codes turned.after _ turned.stands some.0 (sym c.outcome.ensures ∙ some.1); few = omega (arith, c.loop-round-test.true) }
+    record { core = turned.after; stands = turned.stands; ends = ends_with input service codes turned.after _ turned.stands some.0 (sym c.outcome.ensures.is ∙ some.1); few = omega (arith, c.loop-round-test.true) }
 
 pub loop-round-preserved : goal.loop-round-preserved
 loop-round-preserved c =
@@ -27,7 +27,7 @@ loop-round-preserved c =
     record {
       rests = c.in_ok-turn_serving.ensures.rests;
       long = search rules;
-      undecided = ap (λ (k : CallerState). k.replies.outcome) served.other ∙ sym c.outcome.ensures ∙ none_from c.outcome.result (sym c.is_some.ensures ∙ c.if-is_some.false);
+      undecided = ap (λ (k : CallerState). k.replies.outcome) served.other ∙ sym c.outcome.ensures.is ∙ none_from c.outcome.result (sym c.is_some.ensures ∙ c.if-is_some.false);
       on = λ input service core codes h.
           let on = c.loop-round.invariant.on input service core codes h in
           let turned = c.in_ok-turn_caller.ensures.turns input (builtin_owes service) on.core on.stands c.loop-round.invariant.undecided in

@@ -11,8 +11,8 @@ returns-then-count-eq0-clause-reads c = λ input owed core h none.
 
 pub returns-clause-reads : goal.returns-clause-reads
 returns-clause-reads c = λ input owed core h none.
-    both_ok c.take.result (c.take.ensures.got none) (c.take.ensures.stands core.server.sent h.calls)
-    (λ got stands. caller_read_some input owed core _ _ h refl c.drain-count.new.buffer c.drain-count.result c.if-count-eq0.false (c.drain-count.ensures.drains core h.rested) got c.take.ensures.same stands (c.take.ensures.bytes h.caller_read))
+    both_ok c.take.result (c.take.ensures.got none) (c.take.ensures.stands tt core.server.sent h.calls)
+    (λ got stands. caller_read_some input owed core _ _ h refl c.drain-count.new.buffer c.drain-count.result c.if-count-eq0.false (c.drain-count.ensures.drains core h.rested) got (c.take.ensures.kept, c.take.ensures.same.own) stands (c.take.ensures.bytes h.caller_read))
 
 pub returns-clause-rests : goal.returns-clause-rests
 returns-clause-rests c = on_ok c.take.result c.drain-count.ensures.rests
