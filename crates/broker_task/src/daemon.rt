@@ -51,6 +51,7 @@ impl<'p> Daemon<'p> {
         ensures outbox { result.outbox.letters.items ≡ [] }
         ensures counts { (result.awaited ≡ awaited) × (result.answered ≡ 0) }
         ensures given { first_view (end_of result) ≡ view control.entry }
+        ensures unused { IsUnused (end_of result) }
     {
         Daemon {
             domain,

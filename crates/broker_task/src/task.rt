@@ -61,6 +61,7 @@ impl<'p> BrokerTask<'p> {
     ghost use Rattle.task_duties.specs.GivenEnds.{all_retired};
     ghost use Rattle.broker_task.specs.Replies.{HasShortNames};
     ghost use Rattle.broker_task.specs.Given.{IsNewClient, task_given};
+    ghost use Rattle.broker_task.specs.Starting.{IsNewTask};
 
     /// Makes the task of a broker that has decided nothing yet. `awaited` has the number of awaited calls of
     /// each domain, and `controls` the broker's end of each domain's control page, both in the order of the
@@ -82,6 +83,7 @@ impl<'p> BrokerTask<'p> {
         requires unused { Each IsNewClient controls.items }
         ensures made { IfOk result (λ task. task_given task ≡ broker_given broker.hub awaited.items (map view controls.entry.items)) }
         ensures lines { IfOk result (λ task. length task.lines ≡ count_of broker.hub) }
+        ensures new { IfOk result IsNewTask }
         ensures unmade { IfErr result (λ ends. ends ≡ controls.entry) }
     {
         let Ok(buf) = vec![in alloc; 0u8; CHUNK] else {

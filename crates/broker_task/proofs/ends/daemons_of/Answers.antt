@@ -27,6 +27,7 @@ loop-control-preserved c =
       awaited_is = c.new.ensures.counts.0;
       answered = c.new.ensures.counts.1;
       given = c.new.ensures.given;
+      unused = c.new.ensures.unused;
     } in
     let place : n + 1 ≡ 1 + length c.loop-control.daemons.items = omega (arith, inv.count) in
     let pushed = started_push 1 (take n awaited) c.loop-control.yielded c.loop-control.daemons.items (get_or awaited n 0) c.in-Some.control c.new.result inv.started

@@ -1,5 +1,5 @@
 -- The task begins with nothing decided, heard or sent.
-use Rattle.std.proofs.Common.{List, ℕ, subst, ◌∙◌, arith}
+use Rattle.std.proofs.Common.{List, ℕ, refl, subst, ◌∙◌, arith}
 use Rattle.std.proofs.lemmas.List.{length-map}
 use Rattle.broker_task.specs.Moving.{line_of}
 use Rattle.broker_task.specs.Starting.{AreStarted}
@@ -25,3 +25,13 @@ pub returns-clause-made : goal.returns-clause-made
 returns-clause-made c =
     let are = subst (λ (l : List ℕ). AreStarted 1 l c.args.controls.items c.daemons_of-daemons.result.items) c.as_slice.ensures.value c.daemons_of-daemons.ensures in
     given_new (record { broker = c.args.broker; daemons = c.daemons_of-daemons.result }) c.args.awaited.items c.args.controls.items are
+
+pub returns-clause-new : goal.returns-clause-new
+returns-clause-new c = record {
+  switchboard = record { broker = c.args.broker; daemons = c.daemons_of-daemons.result };
+  seen = refl;
+  undecided = c.requires.first;
+  awaited = c.args.awaited.items;
+  controls = c.args.controls.items;
+  started = subst (λ (l : List ℕ). AreStarted 1 l c.args.controls.items c.daemons_of-daemons.result.items) c.as_slice.ensures.value c.daemons_of-daemons.ensures;
+}
