@@ -1,6 +1,6 @@
 -- An agent that was just made.
 use Rattle.std.proofs.Common.{◌≡◌, ℕ, List, [], ◌∷◌, length, refl, ap, sym, ◌∙◌, None, Option, subst}
-use Rattle.std.specs.Prelude.{false, map, replicate}
+use Rattle.std.specs.Prelude.{false, map, replicate, Some, IsSomeAnd}
 use Rattle.std.specs.List.{AllByRecursion as Each, AllZip as EachPair}
 use Rattle.vchan_rule.specs.Seated.{SeatedEnd, view, IsOpen}
 use Rattle.ring_words.specs.declared.page.Role.TheVariants.{Server}
@@ -21,7 +21,8 @@ use Rattle.agent_slots.specs.Slots.{Called, SlotsState, held_at, AreApart}
 use Rattle.agent_control.specs.Speaking.{IsTellable}
 use Rattle.agent_task.specs.declared.agent.Agent.{Agent}
 use Rattle.agent_task.specs.declared.agent.Given.{Given}
-use Rattle.agent_task.specs.Starting.{IsNewQueue, IsNew}
+use Rattle.agent_task.specs.Starting.{IsNewQueue, IsNew, IsNewTask}
+use Rattle.agent_task.specs.State.{state_in}
 use Rattle.agent_task.specs.Standing.{called_of, IsServedBy, AreAskedFor}
 use Rattle.agent_task.specs.Ending.{IsRunning}
 use Rattle.agent_task.proofs.PortLaws.{same_end_is}
@@ -54,7 +55,7 @@ none_heard p got version fault =
     ap (λ (bytes : List ℕ). hears p.own (may_hear p.talker) bytes) got
     ∙ sym (ap (λ (v : Option ℕ). record { version = v; messages = []; fault = p.fault }) version ∙ ap (λ (f : Option SessionFault). record { version = None; messages = []; fault = f }) fault)
 
-pub starts : (a : Agent) → IsNew a.given a.control.queue a.control.port a.slots → a.control.unsaid.items ≡ [] → a.over ≡ None → IsRunning a
+starts : (a : Agent) → IsNew a.given a.control.queue a.control.port a.slots → a.control.unsaid.items ≡ [] → a.over ≡ None → IsRunning a
 starts a new unsaid over = up_running a (record {
   hearing = record {
     heard = [];
@@ -93,6 +94,13 @@ starts a new unsaid over = up_running a (record {
   where
     calls : List CallPlan
     calls = a.given.calls.value.items
+
+-- the same, of a place that has it
+pub starts_in : (o : Option Agent) (a : Agent) → o ≡ Some a → IsNew a.given a.control.queue a.control.port a.slots → a.control.unsaid.items ≡ [] → a.over ≡ None → IsSomeAnd o IsRunning × IsNewTask (state_in o)
+starts_in o a is new unsaid over = (
+  subst (λ (o : Option Agent). IsSomeAnd o IsRunning) (sym is) (starts a new unsaid over),
+  record { agent = a; seen = ap state_in is; new = new; unsaid = unsaid; up = over },
+)
 
 -- the data ends of this domain and version, all unused, with this many calls
 abbrev made : ℕ → ℕ → ℕ → List DataEnd → SlotsState

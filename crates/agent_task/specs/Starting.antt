@@ -15,8 +15,10 @@ use Rattle.agent_queue.specs.Asking.{Asks}
 use Rattle.agent_slots.specs.Sessions.{NotBegun}
 use Rattle.agent_slots.specs.Sides.{late_places}
 use Rattle.agent_slots.specs.Slots.{SlotsState, held_at, AreApart}
+use Rattle.agent_task.specs.declared.agent.Agent.{Agent}
 use Rattle.agent_task.specs.declared.agent.Given.{Given}
 use Rattle.agent_task.specs.Given.{data_ends}
+use Rattle.agent_task.specs.State.{AgentState, state_of}
 
 -- a queue of these calls, none of which was requested
 pub record IsNewQueue (calls : List CallPlan) (q : QueueState) : Type 0 where
@@ -42,3 +44,11 @@ pub record IsNew (g : Given) (q : QueueState) (p : PortState) (s : SlotsState) :
   pub port : IsNewPort g p
   pub slots : s ≡ record { domain = g.domain; version = g.version; held = map held_at (data_ends g); unused = places_in (data_ends g); late = late_places g.payload.value.items; called = replicate (length g.calls.value.items) None; served = []; opened = []; sessions = replicate (length g.payload.value.items) NotBegun; spent = false }
   pub apart : AreApart (places_in (data_ends g))
+
+-- what contracts see of a task whose agent has these parts, has nothing to say, and is on a channel that isn't over
+pub record IsNewTask (state : AgentState) : Type 0 where
+  pub agent : Agent
+  pub seen : state ≡ state_of agent
+  pub new : IsNew agent.given agent.control.queue agent.control.port agent.slots
+  pub unsaid : agent.control.unsaid.items ≡ []
+  pub up : agent.over ≡ None

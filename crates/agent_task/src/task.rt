@@ -90,7 +90,7 @@ impl<'p> AgentTask<'p> {
     ghost use Rattle.agent_task.specs.Given.{given_of, plan_of};
     ghost use Rattle.agent_task.specs.State.{AgentState, task_given};
     ghost use Rattle.agent_task.specs.Ending.{IsOver};
-    ghost use Rattle.agent_task.specs.Starting.{IsNew};
+    ghost use Rattle.agent_task.specs.Starting.{IsNew, IsNewTask};
     ghost use Rattle.agent_task.specs.Turns.{Pays, Tells, GoesOn};
 
     /// Makes the task of the agent of a domain, of version 2 or 3, with its calls and its ends. All ends are
@@ -114,6 +114,7 @@ impl<'p> AgentTask<'p> {
         requires payload { Each (IsGiven domain) (all_given payload.items) }
         requires apart { AreApart (places_in (all_given payload.items)) }
         ensures made { IfOk result (λ task. AgentWith task.plan task.ends ≡ agent_given domain version calls.items (view control.entry) (all_given payload.entry.items)) }
+        ensures new { IfOk result IsNewTask }
         ensures unmade { IfErr result (λ unmade. unmade ≡ record { control = control.entry; payload = payload.entry }) }
     {
         let given = Given {
@@ -145,7 +146,8 @@ impl<'p> AgentTask<'p> {
     ) -> AgentTask<'p>
         requires running { IsNew given room.queue port slots }
         requires some { 0 < length room.scratch.items }
-        ensures { task_given result ≡ given_of given.entry }
+        ensures given { task_given result ≡ given_of given.entry }
+        ensures new { IsNewTask result }
     {
         let TaskRoom {
             mut agent,
