@@ -33,6 +33,9 @@ use Rattle.vchan_c.specs.declared.stretch.Moves.TheVariants.{Nothing as NoBytes,
 use Rattle.vchan_c.specs.declared.stretch.Stored.{Stored}
 use Rattle.vchan_c.specs.declared.stretch.Last.{Last}
 use Rattle.vchan_c.specs.declared.stretch.Last.TheVariants.{Answer as Answered, Event, Notify, Further}
+use Rattle.vchan_core.specs.declared.kept.Kept.{Kept}
+use Rattle.vchan_c.specs.declared.step.Step.{Step}
+use Rattle.vchan_c.specs.Ends.{Tells}
 use Rattle.vchan_c.specs.Stretches.{AreBytes, IsWithin, MovesWithin, IsStretch, IsLast, awaits, byte_place, puts_told, takes_told, moved, stored, standing_stored, signalled, notified, told, left, IsStoreNone, IsPassed}
 
 -- ---- the places of a span's bytes
@@ -292,6 +295,21 @@ moves_more e f payload payload' buffer buffer' (Puts bytes) role orders p b h =
     within_more (write_order e) (write_order f) payload payload' bytes (ap (λ (o : Orders). order_of o (written_ring e.role)) orders ∙ ap (λ (r : Role). order_of f.orders (written_ring r)) role) p h
 moves_more e f payload payload' buffer buffer' (Takes bytes) role orders p b h =
     within_more (read_order e) (read_order f) buffer buffer' bytes (ap (λ (o : Orders). order_of o (read_ring e.role)) orders ∙ ap (λ (r : Role). order_of f.orders (read_ring r)) role) b h
+
+-- what is told of an end is told of one with the same plan and standing, which needed no less
+pub tells_before : (plan plan' : Plan) (e e' : Standing) (payload payload' buffer buffer' : ℕ) (new : Kept) (step : Step) → plan ≡ plan' → e ≡ e' → payload ≤ payload' → buffer ≤ buffer'
+    → Tells plan e payload buffer new step → Tells plan' e' payload' buffer' new step
+tells_before plan plan' e e' payload payload' buffer buffer' new step plan_is stands p b h = record {
+  now = h.now;
+  stretch = h.stretch;
+  kept = h.kept;
+  short = h.short;
+  step_is = h.step_is;
+  does = subst (λ (q : Plan). IsStretch q e' h.stretch h.now) plan_is (subst (λ (f : Standing). IsStretch plan f h.stretch h.now) stands h.does);
+  payload_left = omega (arith, h.payload_left, p);
+  buffer_left = omega (arith, h.buffer_left, b);
+  within = moves_more e e' payload payload' buffer buffer' h.stretch.moves (ap (λ (f : Standing). f.role) stands) (ap (λ (f : Standing). f.orders) stands) p b h.within;
+}
 
 -- ---- an event that is awaited
 

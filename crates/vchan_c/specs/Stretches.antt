@@ -12,8 +12,8 @@ use Rattle.vchan_protocol.specs.Table.Plan.{Plan, answers, Leads, next_op, after
 use Rattle.vchan_protocol.specs.Table.Ends.{Standing, standing_after, peer_pending, mask, low8, write_order, read_order}
 use Rattle.vchan_core.specs.declared.machine.Machine.{Machine}
 use Rattle.vchan_core.specs.declared.machine.ahead.Span.{Span}
-use Rattle.vchan_core.specs.OneMachine.Phases.{standing, rest, IsIdle}
-use Rattle.vchan_core.specs.OneMachine.Ahead.{look_behind}
+use Rattle.vchan_core.specs.OneMachine.Phases.{standing, rest, IsIdle, payload_needed, buffer_needed}
+use Rattle.vchan_core.specs.OneMachine.Ahead.{look_behind, IsOnByte}
 use Rattle.vchan_c.specs.declared.stretch.Bytes.{Bytes}
 use Rattle.vchan_c.specs.declared.stretch.Moves.{Moves}
 use Rattle.vchan_c.specs.declared.stretch.Moves.TheVariants.{Nothing as NoBytes, Puts, Takes}
@@ -73,6 +73,15 @@ abbrev pub MovesWithin : Standing → ℕ → ℕ → Moves → Type 0
 MovesWithin e payload buffer NoBytes = Unit {0}
 MovesWithin e payload buffer (Puts bytes) = IsWithin (write_order e) payload bytes
 MovesWithin e payload buffer (Takes bytes) = IsWithin (read_order e) buffer bytes
+
+-- an end went past these bytes, and past no other event
+pub record HasPassed (before : Machine) (moves : Moves) (now : Machine) : Type 0 where
+  pub leads : (values : ℕ → ℕ) → Leads (rest before) (moved values moves) (rest now)
+  pub stands : standing now ≡ standing before
+  pub payload_left : payload_needed now ≤ payload_needed before
+  pub buffer_left : buffer_needed now ≤ buffer_needed before
+  pub within : MovesWithin (standing before) (payload_needed before) (buffer_needed before) moves
+  pub none : moves ≡ NoBytes → ¬ IsOnByte (next_op (rest before))
 
 -- ---- a store, and a signal
 

@@ -10,6 +10,7 @@
 mod numbers;
 mod step;
 mod stretch;
+mod telling;
 
 ghost use Rattle.std.specs.Prelude.{◌≡◌, ◌≢◌, ◌<◌, ◌↔◌, IsTrue, true, false};
 ghost use Rattle.ring_words.specs.declared.page.Role.{Role};
@@ -20,7 +21,7 @@ ghost use Rattle.vchan_c.specs.Ends.{AreEndNumbers, IsNoEnd, Made, Begins, Goes,
 
 use numbers::{call_of, end_of, live_offset, open_of, refusal_number};
 pub use step::Step;
-use stretch::{stretch_behind, stretch_of};
+use telling::{tell_after, tell_next};
 use vchan_core::{Kept, role_of};
 
 /// Makes an end between two calls, with its own two counts, in bytes modulo 2^32: `prod` of the ring
@@ -69,11 +70,21 @@ pub extern "C" fn vchan_end_begin(end: &mut Kept, call: u8, len: u32, step: &mut
         (0, 2) => begin_in::<2, 102>(end, len, step),
         (0, 3) => begin_in::<3, 103>(end, len, step),
         (0, 4) => begin_in::<4, 104>(end, len, step),
-        _ => {
-            let kept = *end;
-            begin::<100>(end, kept, call, len, step)
-        }
+        _ => begin_any(end, call, len, step),
     }
+}
+
+/// [`vchan_end_begin`] for whatever end and call, as a function that isn't inlined: so no frequent call
+/// pays for it.
+#[inline(never)]
+fn begin_any(end: &mut Kept, call: u8, len: u32, step: &mut Step) -> u8
+    ensures begun { result ≡ 0 → Begins end.old call len end.new step.new }
+    ensures refused { result ≢ 0 → (end.new ≡ end.old) × (step.new ≡ step.old) }
+    ensures answer { (machine : Machine) → IsShort machine → kept_of machine ≡ end.old → result ≡ answer_to machine call len }
+    ensures none { IsNoEnd end.old → result ≡ 7 }
+{
+    let kept = *end;
+    begin::<100>(end, kept, call, len, step)
 }
 
 /// [`vchan_end_begin`] for an end between two calls and for this call. Each frequent call has a copy of its
@@ -109,8 +120,7 @@ fn begin<const COPY: u8>(end: &mut Kept, kept: Kept, call: u8, len: u32, step: &
         return refusal_number(refusal);
     }
     machine.begin(call);
-    *step = Step::of(stretch_of::<COPY>(&mut machine));
-    *end = machine.kept();
+    tell_next::<COPY>(end, step, &mut machine);
     0
 }
 
@@ -132,11 +142,20 @@ pub extern "C" fn vchan_end_took(end: &mut Kept, value: u64, look: u64, step: &m
         5 => took_in::<5>(end, value, look, step),
         9 => took_in::<9>(end, value, look, step),
         13 => took_in::<13>(end, value, look, step),
-        _ => {
-            let kept = *end;
-            took::<0>(end, kept, value, look, step)
-        }
+        _ => took_any(end, value, look, step),
     }
+}
+
+/// [`vchan_end_took`] for whatever phase, as a function that isn't inlined.
+#[inline(never)]
+fn took_any(end: &mut Kept, value: u64, look: u64, step: &mut Step) -> bool
+    ensures moved { result ≡ true → Goes end.old value look end.new step.new }
+    ensures refused { result ≡ false → (end.new ≡ end.old) × (step.new ≡ step.old) }
+    ensures accepted { (machine : Machine) → IsShort machine → kept_of machine ≡ end.old → (IsTrue result ↔ ¬ IsIdle machine) }
+    ensures none { IsNoEnd end.old → result ≡ false }
+{
+    let kept = *end;
+    took::<0>(end, kept, value, look, step)
 }
 
 /// [`vchan_end_took`] for an end in this phase. Each frequent phase has a copy of its own, in which the end
@@ -171,8 +190,7 @@ fn took<const COPY: u8>(end: &mut Kept, kept: Kept, value: u64, look: u64, step:
     if machine.idle() {
         return false;
     }
-    *step = Step::of(stretch_behind::<COPY>(&mut machine, value, look));
-    *end = machine.kept();
+    tell_after::<COPY>(end, step, &mut machine, value, look);
     true
 }
 

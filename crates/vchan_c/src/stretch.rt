@@ -4,7 +4,7 @@ ghost use Rattle.vchan_protocol.specs.Table.Ends.{peer_pending as peer_pending_o
 ghost use Rattle.vchan_protocol.specs.Table.Plan.{Leads, next_op, after};
 ghost use Rattle.vchan_core.specs.OneMachine.Ahead.{IsOnByte};
 ghost use Rattle.vchan_core.specs.OneMachine.Phases.{standing, rest, rest_or_answer, IsIdle, payload_needed, buffer_needed};
-ghost use Rattle.vchan_c.specs.Stretches.{AreBytes, awaits as awaits_of, moved, stored, signalled, notified, answered_by, looks_on, plan_behind, standing_stored, left, IsLast, IsStoreNone, IsPassed, MovesWithin, IsStretch};
+ghost use Rattle.vchan_c.specs.Stretches.{AreBytes, HasPassed, awaits as awaits_of, moved, stored, signalled, notified, answered_by, looks_on, plan_behind, standing_stored, left, IsLast, IsStoreNone, IsPassed, MovesWithin, IsStretch};
 
 use ring_words::{Ring, WordName, place};
 use vchan_core::words::peer_pending;
@@ -101,7 +101,7 @@ fn bytes_of(span: Span) -> Bytes
 
 /// Goes past the bytes that come next.
 #[inline(always)]
-fn pass_bytes(machine: &mut Machine) -> Moves
+pub(crate) fn pass_bytes(machine: &mut Machine) -> Moves
     ensures events { (values : ℕ → ℕ) → Leads (rest machine.old) (moved values result) (rest machine.new) }
     ensures standing { standing machine.new ≡ standing machine.old }
     ensures busy { ¬ IsIdle machine.old → ¬ IsIdle machine.new }
@@ -178,7 +178,7 @@ fn looks_behind(machine: &Machine, value: u64) -> bool
 /// Takes the value of the event that is awaited, if one is, and that of the word that is loaded after it,
 /// if one is.
 #[inline(always)]
-fn pass_awaited(machine: &mut Machine, value: u64, look: u64) -> Option<Answer>
+pub(crate) fn pass_awaited(machine: &mut Machine, value: u64, look: u64) -> Option<Answer>
     requires { ¬ IsIdle machine.old }
     ensures rest { rest_or_answer result machine.new ≡ plan_behind machine.old value look }
     ensures standing { standing machine.new ≡ standing machine.old }
@@ -224,7 +224,7 @@ fn pass_last(machine: &mut Machine) -> Last
 
 /// Returns the answer of a call, with no event before it.
 #[inline(always)]
-fn answered(answer: Answer) -> Stretch
+pub(crate) fn answered(answer: Answer) -> Stretch
     ensures { result ≡ answered_by answer }
 {
     Stretch {
@@ -235,16 +235,19 @@ fn answered(answer: Answer) -> Stretch
     }
 }
 
-/// Returns the events that come next; the end goes past those whose values are known.
+/// Returns these bytes, which the end has passed, with the events that come after them; the end goes past
+/// those whose values are known.
 #[inline(always)]
-pub(crate) fn stretch_of<const COPY: u8>(machine: &mut Machine) -> Stretch
+pub(crate) fn after_bytes<const COPY: u8, const MOVES: u8>(
+    machine: &mut Machine,
+    moves: Moves,
+) -> Stretch
     requires { ¬ IsIdle machine.old }
-    ensures stretch { IsStretch (rest machine.old) (standing machine.old) result machine.new }
+    ensures stretch { (before : Machine) → HasPassed before moves machine.old → IsStretch (rest before) (standing before) result machine.new }
     ensures payload_left { payload_needed machine.new ≤ payload_needed machine.old }
     ensures buffer_left { buffer_needed machine.new ≤ buffer_needed machine.old }
-    ensures within { MovesWithin (standing machine.old) (payload_needed machine.old) (buffer_needed machine.old) result.moves }
+    ensures moves { result.moves ≡ moves }
 {
-    let moves = pass_bytes(machine);
     let (store, answer) = pass_store(machine);
     if let Some(answer) = answer {
         return Stretch {
@@ -264,24 +267,5 @@ pub(crate) fn stretch_of<const COPY: u8>(machine: &mut Machine) -> Stretch
         store,
         signals,
         last,
-    }
-}
-
-/// Returns the same for after the awaited event, which took this value, and the look after that.
-#[inline(always)]
-pub(crate) fn stretch_behind<const COPY: u8>(
-    machine: &mut Machine,
-    value: u64,
-    look: u64,
-) -> Stretch
-    requires { ¬ IsIdle machine.old }
-    ensures stretch { IsStretch (plan_behind machine.old value look) (standing machine.old) result machine.new }
-    ensures payload_left { payload_needed machine.new ≤ payload_needed machine.old }
-    ensures buffer_left { buffer_needed machine.new ≤ buffer_needed machine.old }
-    ensures within { MovesWithin (standing machine.old) (payload_needed machine.old) (buffer_needed machine.old) result.moves }
-{
-    match pass_awaited(machine, value, look) {
-        Some(answer) => answered(answer),
-        None => stretch_of::<COPY>(machine),
     }
 }
