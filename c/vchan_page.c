@@ -3,7 +3,7 @@
 #include <limits.h>
 #include <string.h>
 
-/* NOTHING_NOW is what a call returns inside this file if nothing can be moved now. */
+/* NOTHING_NOW is what a call that waits is told if nothing can be moved now. */
 enum { PAGE_SIZE = 4096, GREATEST_IN_PAGE = 11, NOTHING_NOW = -2 };
 
 static int refuse(int error)
@@ -93,15 +93,15 @@ static const int answers[VCHAN_GONE + 1] = {
 	[VCHAN_BAD_ORDERS] = EPROTO,
 };
 
-static int answer(const struct vchan_step *step)
+static int answer(const struct vchan_step *step, int nothing)
 {
 	int is = answers[step->answer];
 
-	return is > 0 ? refuse(is) : is ? is : (int)step->answer_first;
+	return is > 0 ? refuse(is) : is ? nothing : (int)step->answer_first;
 }
 
-/* Makes a whole call. Returns how many bytes it moved or counted, NOTHING_NOW, or -1 with errno. */
-static int make(struct vchan_page *page, enum vchan_call call, size_t size, const void *out, void *in)
+/* Makes a whole call. Returns how many bytes it moved or counted, `nothing` if none can be now, or -1 with errno. */
+static int make(struct vchan_page *page, enum vchan_call call, size_t size, const void *out, void *in, int nothing)
 {
 	struct vchan_step step;
 	uint64_t value, look;
@@ -121,7 +121,7 @@ static int make(struct vchan_page *page, enum vchan_call call, size_t size, cons
 		if (step.signals)
 			heard = page->with.notify(page->with.context);
 		if (step.kind == VCHAN_ANSWER || step.kind == VCHAN_NOTIFY || step.kind == VCHAN_ANNOUNCE)
-			return end_call(page, &step) && heard ? answer(&step) : -1;
+			return end_call(page, &step) && heard ? answer(&step, nothing) : -1;
 		value = awaited(page, &step);
 		look = step.look_width && value ? load(page, step.look_offset, step.look_width) : 0;
 		if (!vchan_end_took(&page->end, value, look, &step))
@@ -129,23 +129,16 @@ static int make(struct vchan_page *page, enum vchan_call call, size_t size, cons
 	}
 }
 
-static int moved(struct vchan_page *page, enum vchan_call call, size_t size, const void *out, void *in)
-{
-	int count = make(page, call, size, out, in);
-
-	return count == NOTHING_NOW ? 0 : count;
-}
-
-int vchan_page_write(struct vchan_page *page, const void *data, size_t size) { return moved(page, VCHAN_WRITE, size, data, NULL); }
-int vchan_page_send(struct vchan_page *page, const void *data, size_t size) { return moved(page, VCHAN_SEND, size, data, NULL); }
-int vchan_page_read(struct vchan_page *page, void *data, size_t size) { return moved(page, VCHAN_READ, size, NULL, data); }
-int vchan_page_recv(struct vchan_page *page, void *data, size_t size) { return moved(page, VCHAN_RECV, size, NULL, data); }
-int vchan_page_drain(struct vchan_page *page, void *data, size_t size) { return moved(page, VCHAN_DRAIN, size, NULL, data); }
-int vchan_page_data_ready(struct vchan_page *page) { return moved(page, VCHAN_DATA_READY, 0, NULL, NULL); }
-int vchan_page_buffer_space(struct vchan_page *page) { return moved(page, VCHAN_BUFFER_SPACE, 0, NULL, NULL); }
-int vchan_page_take_event(struct vchan_page *page) { return moved(page, VCHAN_TAKE_EVENT, 0, NULL, NULL); }
-int vchan_page_connect(struct vchan_page *page) { return moved(page, VCHAN_CONNECT, 0, NULL, NULL); }
-int vchan_page_close(struct vchan_page *page) { return moved(page, VCHAN_CLOSE, 0, NULL, NULL); }
+int vchan_page_write(struct vchan_page *page, const void *data, size_t size) { return make(page, VCHAN_WRITE, size, data, NULL, 0); }
+int vchan_page_send(struct vchan_page *page, const void *data, size_t size) { return make(page, VCHAN_SEND, size, data, NULL, 0); }
+int vchan_page_read(struct vchan_page *page, void *data, size_t size) { return make(page, VCHAN_READ, size, NULL, data, 0); }
+int vchan_page_recv(struct vchan_page *page, void *data, size_t size) { return make(page, VCHAN_RECV, size, NULL, data, 0); }
+int vchan_page_drain(struct vchan_page *page, void *data, size_t size) { return make(page, VCHAN_DRAIN, size, NULL, data, 0); }
+int vchan_page_data_ready(struct vchan_page *page) { return make(page, VCHAN_DATA_READY, 0, NULL, NULL, 0); }
+int vchan_page_buffer_space(struct vchan_page *page) { return make(page, VCHAN_BUFFER_SPACE, 0, NULL, NULL, 0); }
+int vchan_page_take_event(struct vchan_page *page) { return make(page, VCHAN_TAKE_EVENT, 0, NULL, NULL, 0); }
+int vchan_page_connect(struct vchan_page *page) { return make(page, VCHAN_CONNECT, 0, NULL, NULL, 0); }
+int vchan_page_close(struct vchan_page *page) { return make(page, VCHAN_CLOSE, 0, NULL, NULL, 0); }
 
 int vchan_page_is_open(const struct vchan_page *page)
 {
@@ -166,7 +159,7 @@ static int make_waiting(struct vchan_page *page, enum vchan_call call, size_t si
 {
 	int count;
 
-	while ((count = make(page, call, size, out, in)) == NOTHING_NOW)
+	while ((count = make(page, call, size, out, in, NOTHING_NOW)) == NOTHING_NOW)
 		if (vchan_page_wait(page))
 			return -1;
 	return count;
