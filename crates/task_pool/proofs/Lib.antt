@@ -3,3 +3,4 @@ pub mod Keeping
 pub mod Settling
 pub mod Totals
 pub mod Rules
+pub mod RoundLaws

@@ -11,10 +11,12 @@ mod pool;
 mod progress;
 mod queue;
 mod quiet;
+mod rounds;
 mod task;
 mod turn;
 mod waiting;
 mod worker;
 
 pub use pool::{MOST_WORKERS, run_pool};
+pub use rounds::{Rounds, run_rounds};
 pub use task::{PoolTask, Turn};

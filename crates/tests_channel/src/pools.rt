@@ -7,7 +7,7 @@ use std::sync::atomic::{AtomicBool, AtomicU64, Ordering};
 use std::test::Fail;
 use std::time::Duration;
 use std::{hint, thread};
-use task_pool::{PoolTask, Turn, run_pool};
+use task_pool::{PoolTask, Rounds, Turn, run_pool, run_rounds};
 
 // A task of this many turns, which answers how many it made.
 #[derive(Drop)]
@@ -81,6 +81,36 @@ fn forty_tasks(rt: HostRuntime) -> Result<(), Fail> {
     }
     let none = run_pool(&rt, rt.alloc(), rising(rt.alloc(), 0)?, 3, &OpenGate)?;
     assert!(rt; none.is_empty());
+    Ok(())
+}
+
+// Five tasks of one to five turns, in so many rounds: how many turns they make in all.
+#[test]
+fn turns_in_rounds(rt: HostRuntime) -> Result<(), Fail> {
+    for (rounds, turns) in [
+        (0, 0),
+        (1, 5),
+        (2, 9),
+        (4, 14),
+        (5, 15),
+        (4_294_967_295, 15),
+    ] {
+        let gate = Counted {
+            turns: AtomicU64::new(0),
+        };
+        let come = run_rounds(rt.alloc(), rising(rt.alloc(), 5)?, rounds, &gate)?;
+        assert!(rt;
+            gate.turns.load(Ordering::SeqCst) == turns,
+            "in {rounds} rounds"
+        );
+        match come {
+            Rounds::AllDone(dones) => {
+                assert!(rt; rounds >= 5, "in {rounds} rounds");
+                assert!(rt; dones.as_slice() == [1, 2, 3, 4, 5].as_slice());
+            }
+            Rounds::WentOn => assert!(rt; rounds < 5, "in {rounds} rounds"),
+        }
+    }
     Ok(())
 }
 
