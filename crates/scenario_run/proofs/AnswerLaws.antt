@@ -20,20 +20,20 @@ use Rattle.run_pages.specs.Pages.{AreLaid, PageAt, new_ends}
 use Rattle.run_pages.specs.Dealt.{ControlsDealt, HandsDealt, hand_ends}
 use Rattle.run_pages.specs.Settling.{AreSettledBy, HandsBack, IsSettledBy, hand_of}
 use Rattle.scenario_run.specs.Tasks.{AreTasksOf, domain_given}
-use Rattle.scenario_run.specs.Owing.{Owes}
+use Rattle.scenario_run.specs.Turns.{Owes, RunState, Waits, given_in}
 use Rattle.scenario_run.specs.Answering.{Answers, AreAnswers, ends_given}
 use Rattle.scenario_run.proofs.DealtLaws.{broker_given_lem, domain_given_lem}
 
 -- ---- what the pool answers
 
 -- the task at a place owed the answer there
-owed_at : (tasks : List TaskGiven) (dones : List TaskDone) (k : ℕ) (given : TaskGiven) → AllZip Owes tasks dones → slice_get tasks k ≡ Some given → TaskOwes given (answer_at (map answer_of dones) k)
-owed_at [] dones k given owes is = absurd (none-some given is)
-owed_at (t ∷ tasks) [] k given owes is = absurd owes
-owed_at (t ∷ tasks) (d ∷ dones) zero given owes is = subst (λ g. TaskOwes g (answer_of d)) (let e : Some t ≡ Some given = is in cc) owes.0
-owed_at (t ∷ tasks) (d ∷ dones) (suc k) given owes is = owed_at tasks dones k given owes.1 is
+owed_at : (tasks : List RunState) (dones : List TaskDone) (k : ℕ) (task : RunState) → AllZip Owes tasks dones → slice_get tasks k ≡ Some task → TaskOwes (given_in task) (answer_at (map answer_of dones) k)
+owed_at [] dones k task owes is = absurd (none-some task is)
+owed_at (t ∷ tasks) [] k task owes is = absurd owes
+owed_at (t ∷ tasks) (d ∷ dones) zero task owes is = let same : t ≡ task = (let e : Some t ≡ Some task = is in cc) in subst (λ (x : RunState). Owes x d) same owes.0
+owed_at (t ∷ tasks) (d ∷ dones) (suc k) task owes is = owed_at tasks dones k task owes.1 is
 
-pub answers_are : (s : Scenario) (pages : List PageAt) (controls : List SeatedEnd) (hands : List Hand) (tasks : List TaskGiven) (dones : List TaskDone)
+pub answers_are : (s : Scenario) (pages : List PageAt) (controls : List SeatedEnd) (hands : List Hand) (tasks : List RunState) (dones : List TaskDone)
     → AreLaid s pages → ControlsDealt pages controls → HandsDealt pages hands → length controls ≡ length s.domains → length hands ≡ length s.domains
     → AreTasksOf s (map view controls) hands tasks → AllZip Owes tasks dones → AreAnswers s pages (map answer_of dones)
 answers_are s pages controls hands tasks dones are by_controls by_hands many all given owes = record {
@@ -42,15 +42,15 @@ answers_are s pages controls hands tasks dones are by_controls by_hands many all
 }
   where
     each : (number : ℕ) → number ≤ length s.domains → Answers s pages (map answer_of dones) number
-    each zero within = (broker_given (hub_of s) (awaited_by s) (map view controls), broker_given_lem s pages controls by_controls many, by_controls, owed_at tasks dones 0 (broker_given (hub_of s) (awaited_by s) (map view controls)) owes given.broker)
+    each zero within = (broker_given (hub_of s) (awaited_by s) (map view controls), broker_given_lem s pages controls by_controls many, by_controls, owed_at tasks dones 0 (Waits (broker_given (hub_of s) (awaited_by s) (map view controls))) owes given.broker)
     each (suc k) within =
         let h = get_within hands k (omega (arith, within, all)) in
         let hand : Hand = h.0 in
         let next : suc k ≡ k + 1 = omega arith in
         let dealt : hand_ends (suc k) hand ≡ new_ends pages (suc k) = subst (λ d. hand_ends d hand ≡ new_ends pages d) (sym next) (by_hands k hand h.1) in
         let is = domain_given_lem s pages (suc k) hand (omega arith) within are dealt in
-        let at : slice_get tasks (suc k) ≡ Some (domain_given s (suc k) hand) = subst (λ d. slice_get tasks d ≡ Some (domain_given s d hand)) (sym next) (given.domains k hand h.1) in
-        (domain_given s (suc k) hand, is.0, is.1, owed_at tasks dones (suc k) (domain_given s (suc k) hand) owes at)
+        let at : slice_get tasks (suc k) ≡ Some (Waits (domain_given s (suc k) hand)) = subst (λ d. slice_get tasks d ≡ Some (Waits (domain_given s d hand))) (sym next) (given.domains k hand h.1) in
+        (domain_given s (suc k) hand, is.0, is.1, owed_at tasks dones (suc k) (Waits (domain_given s (suc k) hand)) owes at)
 
 -- ---- the ends come back
 

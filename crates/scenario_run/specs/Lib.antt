@@ -1,6 +1,6 @@
+pub mod Turns
 pub mod Tasks
 pub mod Stages
-pub mod Owing
 pub mod Answering
 pub mod Parts
 pub mod Lines

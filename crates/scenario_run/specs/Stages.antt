@@ -5,12 +5,12 @@ use Rattle.std.specs.Global.{Global}
 use Rattle.vchan_rule.specs.Seated.{view}
 use Rattle.scenario_file.specs.Scenario.{Plan as Scenario}
 use Rattle.task_duties.specs.declared.ends.RetiredEnd.{RetiredEnd}
-use Rattle.task_duties.specs.TaskOwes.{TaskGiven, broker_given}
-use Rattle.domain_task.specs.Given.{given_of}
+use Rattle.task_duties.specs.TaskOwes.{broker_given}
 use Rattle.run_laws.specs.Laid.{awaited_by, hub_of}
 use Rattle.scenario_run.specs.declared.run_task.TaskStage.{TaskStage}
 use Rattle.scenario_run.specs.declared.run_task.TaskStage.TheVariants.{Broker, Domain, Made}
 use Rattle.scenario_run.specs.Tasks.{AreControlsOf, IsHandOf, domain_given}
+use Rattle.scenario_run.specs.Turns.{RunState, Waits, Runs}
 
 -- an empty list has room for so many ends
 abbrev pub HasRoom : ℕ → Vec RetiredEnd Global → Type 0
@@ -22,8 +22,8 @@ MayMake s (Broker controls retired) = AreControlsOf s controls.items × HasRoom 
 MayMake s (Domain number hand retired) = ((1 ≤ number) × (number ≤ length s.domains)) × IsHandOf s number hand × HasRoom (length hand.payload.items + 1) retired
 MayMake s (Made task) = Unit {0}
 
--- what the task is given
-abbrev pub given_at : Scenario → TaskStage → TaskGiven
-given_at s (Broker controls retired) = broker_given (hub_of s) (awaited_by s) (map view controls.items)
-given_at s (Domain number hand retired) = domain_given s number hand
-given_at s (Made task) = given_of task
+-- the task as its pool sees it
+abbrev pub state_at : Scenario → TaskStage → RunState
+state_at s (Broker controls retired) = Waits (broker_given (hub_of s) (awaited_by s) (map view controls.items))
+state_at s (Domain number hand retired) = Waits (domain_given s number hand)
+state_at s (Made task) = Runs task

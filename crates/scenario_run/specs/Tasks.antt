@@ -15,6 +15,7 @@ use Rattle.hostile_task.specs.Plan.{AreApart as AreAllApart}
 use Rattle.run_laws.specs.Laid.{agent_plan, awaited_by, calls_from, hostile_plan, hub_of}
 use Rattle.run_pages.specs.declared.deal.Hand.{Hand}
 use Rattle.run_pages.specs.Dealt.{HasOrders, hand_ends}
+use Rattle.scenario_run.specs.Turns.{RunState, Waits}
 
 -- how many calls a domain has
 abbrev pub awaited_from : Scenario → ℕ → ℕ
@@ -48,8 +49,8 @@ domain_given s d hand =
     then Hostile (record (hostile_plan s d) { places = places_in (hand_ends d hand) }) (hand_ends d hand)
     else Agent (record (agent_plan s d) { places = places_in (all_given hand.payload.items) }) (hand_ends d hand)
 
--- the tasks are given the ends of these hands, and that of the broker the controls
-pub record AreTasksOf (s : Scenario) (controls : List EndView) (hands : List Hand) (given : List TaskGiven) : Type 0 where
-  pub broker : slice_get given 0 ≡ Some (broker_given (hub_of s) (awaited_by s) controls)
-  pub domains : (k : ℕ) (hand : Hand) → slice_get hands k ≡ Some hand → slice_get given (k + 1) ≡ Some (domain_given s (k + 1) hand)
-  pub count : length given ≡ length hands + 1
+-- the tasks wait to be made of the ends of these hands, and that of the broker of the controls
+pub record AreTasksOf (s : Scenario) (controls : List EndView) (hands : List Hand) (tasks : List RunState) : Type 0 where
+  pub broker : slice_get tasks 0 ≡ Some (Waits (broker_given (hub_of s) (awaited_by s) controls))
+  pub domains : (k : ℕ) (hand : Hand) → slice_get hands k ≡ Some hand → slice_get tasks (k + 1) ≡ Some (Waits (domain_given s (k + 1) hand))
+  pub count : length tasks ≡ length hands + 1

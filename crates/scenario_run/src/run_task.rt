@@ -1,5 +1,5 @@
 //! A task of a run, which is made at its first turn.
-ghost use Rattle.scenario_run.specs.Owing.{Owes};
+ghost use Rattle.scenario_run.specs.Turns.{Owes, RunTurns};
 
 use crate::tasks::{broker, domain, is_scenario};
 use crate::unmade::{retire_controls, retire_hand};
@@ -32,7 +32,7 @@ pub(crate) enum TaskStage<'p> {
 }
 
 /// A task of a run. It is made from its ends at its first turn, by the worker that makes that turn. Contracts
-/// see it as what it is given.
+/// see what it waits to be made of, or the task that was made.
 ///
 /// If memory runs out for a task, its ends retire, and it sets a flag that all tasks share. Each of the others
 /// retires its ends at its next turn, and is done as out of memory too, since there will be no report.
@@ -45,12 +45,12 @@ pub(crate) struct RunTask<'p, 's> {
 }
 
 impl<'p, 's> Model for RunTask<'p, 's> {
-    ghost use Rattle.task_duties.specs.TaskOwes.{TaskGiven};
-    ghost use Rattle.scenario_run.specs.Stages.{MayMake, given_at};
+    ghost use Rattle.scenario_run.specs.Stages.{MayMake, state_at};
+    ghost use Rattle.scenario_run.specs.Turns.{RunState};
 
-    ghost Value = { TaskGiven };
+    ghost Value = { RunState };
 
-    ghost view = { λ t. given_at t.scenario.now t.stage };
+    ghost view = { λ t. state_at t.scenario.now t.stage };
 
     ghost invariant = { λ t. MayMake t.scenario.now t.stage };
 }
@@ -60,13 +60,15 @@ impl<'p> TaskStage<'p> {
     ghost use Rattle.task_duties.specs.TaskOwes.{TaskOwes, NoMemory};
     ghost use Rattle.task_duties.specs.GivenEnds.{all_retired};
     ghost use Rattle.domain_task.specs.Given.{given_of};
-    ghost use Rattle.scenario_run.specs.Stages.{MayMake, given_at};
+    ghost use Rattle.scenario_run.specs.Stages.{MayMake, state_at};
+    ghost use Rattle.scenario_run.specs.Turns.{IsOf, given_in};
 
     // Returns the task, and makes it first unless it was made. If memory runs out, returns its ends retired.
     fn task(self, alloc: Global, scenario: &Scenario) -> Result<Task<'p>, Vec<RetiredEnd>>
         requires { MayMake scenario.now self }
-        ensures made { IfOk result (λ task. given_of task ≡ given_at scenario.now self.entry) }
-        ensures unmade { IfErr result (λ ends. TaskOwes (given_at scenario.now self.entry) (NoMemory (all_retired ends.items))) }
+        ensures given { IfOk result (λ task. given_of task ≡ given_in (state_at scenario.now self.entry)) }
+        ensures made { IfOk result (IsOf (state_at scenario.now self.entry)) }
+        ensures unmade { IfErr result (λ ends. TaskOwes (given_in (state_at scenario.now self.entry)) (NoMemory (all_retired ends.items))) }
     {
         is_scenario(scenario);
         match self {
@@ -89,7 +91,7 @@ impl<'p> TaskStage<'p> {
     // Retires all ends.
     fn give_up(self, scenario: &Scenario) -> Vec<RetiredEnd>
         requires { MayMake scenario.now self }
-        ensures { TaskOwes (given_at scenario.now self.entry) (NoMemory (all_retired result.items)) }
+        ensures { TaskOwes (given_in (state_at scenario.now self.entry)) (NoMemory (all_retired result.items)) }
     {
         is_scenario(scenario);
         match self {
@@ -106,7 +108,7 @@ impl<'p> TaskStage<'p> {
 
 impl<'p, 's> RunTask<'p, 's> {
     ghost use Rattle.std.specs.Prelude.{◌≡◌};
-    ghost use Rattle.scenario_run.specs.Stages.{MayMake, given_at};
+    ghost use Rattle.scenario_run.specs.Stages.{MayMake, state_at};
 
     /// Makes a task of this scenario. All tasks of a run share `no_memory`, which is false at first.
     pub(crate) fn new(
@@ -116,7 +118,7 @@ impl<'p, 's> RunTask<'p, 's> {
         stage: TaskStage<'p>,
     ) -> RunTask<'p, 's>
         requires { MayMake scenario.now stage }
-        ensures { result ≡ given_at scenario.now stage.entry }
+        ensures { result ≡ state_at scenario.now stage.entry }
     {
         RunTask {
             alloc,
@@ -132,7 +134,7 @@ impl<'p, 's> PoolTask for RunTask<'p, 's> {
 
     ghost owes = { Owes };
 
-    ghost turns = { λ _ _. Unit {0} };
+    ghost turns = { RunTurns };
 
     fn turn(self) -> Turn<Self> {
         let RunTask {

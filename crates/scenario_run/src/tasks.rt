@@ -7,8 +7,8 @@ ghost use Rattle.scenario_file.specs.declared.scenario.Domain.{Domain as Named};
 ghost use Rattle.scenario_file.specs.Scenario.{IsScenario, domain_of};
 ghost use Rattle.run_laws.specs.Laid.{awaited_by, hub_of};
 ghost use Rattle.task_duties.specs.TaskOwes.{broker_given};
-ghost use Rattle.domain_task.specs.Given.{given_of};
 ghost use Rattle.scenario_run.specs.Tasks.{AreHandsOf, AreControlsOf, AreTasksOf, AreUnmade, IsHandOf, domain_given, awaited_from};
+ghost use Rattle.scenario_run.specs.Turns.{IsOf, Waits};
 
 use crate::copies::{calls_from, copy_of_acts, entries_of, names_of};
 use crate::run_task::{RunTask, TaskStage};
@@ -67,7 +67,7 @@ pub(crate) fn broker<'p>(
     controls: Vec<End<'p>>,
 ) -> Result<Task<'p>, Vec<End<'p>>>
     requires { AreControlsOf scenario.now controls.items }
-    ensures made { IfOk result (λ task. given_of task ≡ broker_given (hub_of scenario.now) (awaited_by scenario.now) (map view controls.entry.items)) }
+    ensures made { IfOk result (IsOf (Waits (broker_given (hub_of scenario.now) (awaited_by scenario.now) (map view controls.entry.items)))) }
     ensures unmade { IfErr result (λ ends. ends ≡ controls.entry) }
 {
     let Ok(plan) = broker_plan(alloc, scenario) else {
@@ -145,7 +145,7 @@ pub(crate) fn domain<'p>(
 ) -> Result<Task<'p>, UnmadeEnds<'p>>
     requires there { (1 ≤ number) × (number ≤ length scenario.now.domains) }
     requires hand { IsHandOf scenario.now number hand }
-    ensures made { IfOk result (λ task. given_of task ≡ domain_given scenario.now number hand.entry) }
+    ensures made { IfOk result (IsOf (Waits (domain_given scenario.now number hand.entry))) }
     ensures unmade { IfErr result (λ ends. AreUnmade hand.entry ends) }
 {
     let domain = &scenario.domains[number as usize - 1];
@@ -166,7 +166,7 @@ fn agent<'p>(
     requires domain { domain_of scenario.now number ≡ Some domain.now }
     requires honest { domain.now.hostile ≡ None }
     requires hand { IsHandOf scenario.now number hand }
-    ensures made { IfOk result (λ task. given_of task ≡ domain_given scenario.now number hand.entry) }
+    ensures made { IfOk result (IsOf (Waits (domain_given scenario.now number hand.entry))) }
     ensures unmade { IfErr result (λ ends. AreUnmade hand.entry ends) }
 {
     is_scenario(scenario);
@@ -190,7 +190,7 @@ fn hostile<'p>(
 ) -> Result<Task<'p>, UnmadeEnds<'p>>
     requires acts { (d : Named) × (domain_of scenario.now number ≡ Some d) × (d.hostile ≡ Some acts.now) }
     requires hand { IsHandOf scenario.now number hand }
-    ensures made { IfOk result (λ task. given_of task ≡ domain_given scenario.now number hand.entry) }
+    ensures made { IfOk result (IsOf (Waits (domain_given scenario.now number hand.entry))) }
     ensures unmade { IfErr result (λ ends. AreUnmade hand.entry ends) }
 {
     let Hand { control, payload } = hand;
