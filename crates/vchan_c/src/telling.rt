@@ -88,6 +88,7 @@ fn tell_as<const COPY: u8>(end: &mut Kept, step: &mut Step, machine: &Machine, s
     ensures kept { IsKept end.new machine.now }
     ensures short { IsShort machine.now }
 {
-    *step = Step::of(stretch);
+    // The end first: the compiler then leaves out the fields that it holds already.
     *end = machine.kept();
+    *step = Step::of(stretch);
 }
