@@ -1,6 +1,7 @@
 pub mod Turns
 pub mod Tasks
 pub mod Stages
+pub mod Alone
 pub mod Answering
 pub mod Parts
 pub mod Lines

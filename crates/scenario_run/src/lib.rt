@@ -15,7 +15,7 @@ mod sessions;
 mod tasks;
 mod unmade;
 
-pub use run::run_scenario;
+pub use run::{AloneRun, run_alone, run_scenario};
 pub use run_report::{
     CallLine, CallResult, MixedOutcome, Report, ServedLine, SettledPage, report_text, summary_text,
 };

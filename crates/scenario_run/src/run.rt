@@ -4,11 +4,13 @@ ghost use Rattle.domain_task.specs.Owes.{answer_of};
 ghost use Rattle.run_laws.specs.Lawful.{IsLawful};
 ghost use Rattle.run_pages.specs.Pages.{AreLaid, HasSeats};
 ghost use Rattle.run_pages.specs.Starts.{AreStartsOf};
+ghost use Rattle.scenario_run.specs.Alone.{AreDealt, RunsAlone, TurnedTo};
 ghost use Rattle.scenario_run.specs.Answering.{AreAnswers};
 
 use crate::answers::{Answers, take_apart};
 use crate::lines::call_lines;
 use crate::page_index::PageIndex;
+use crate::run_task::RunTask;
 use crate::sessions::served_lines;
 use crate::tasks::{is_scenario, tasks};
 use domain_task::TaskDone;
@@ -20,7 +22,7 @@ use std::alloc::Global;
 use std::sync::Wait;
 use std::sync::atomic::AtomicBool;
 use std::thread::Threads;
-use task_pool::run_pool;
+use task_pool::{Rounds, run_pool, run_rounds};
 use vchan_io::Memory;
 
 /// Runs a scenario with this many workers, from 1 to 16, and returns its report. The pages are made. The
@@ -40,10 +42,86 @@ pub fn run_scenario<G: Gate, R: Threads + Wait + Sync>(
     requires few_workers { workers ≤ 16 }
     ensures { IfOk result (λ report. IsLawful scenario.now report) }
 {
+    // One worker needs no thread.
+    if workers == 1 {
+        if let AloneRun::Reported(report) = run_alone(alloc, scenario, MOST_ROUNDS, gate)? {
+            return Ok(report);
+        }
+    }
     let starts = RunStarts::new(alloc, scenario)?;
     let (pages, seats) = RunPages::lay(alloc, &starts, scenario)?;
     let dones = run_tasks(rt, alloc, scenario, workers, gate, &pages, seats)?;
     report(alloc, scenario, &starts, pages, dones)
+}
+
+// The rounds of one worker before a pool begins anew: far more than the turns that a scenario's acts can ask for.
+const MOST_ROUNDS: u32 = u32::MAX;
+
+/// How a run in one thread came out.
+#[derive(Drop)]
+pub enum AloneRun {
+    /// All tasks are done.
+    Reported(Report),
+    /// After the last round a task wanted another turn.
+    WentOn,
+}
+
+/// Runs a scenario as `run_scenario` does, in the calling thread and in so many rounds at most. In a round each
+/// task that isn't done makes one turn, the broker's first, then those of the domains in order.
+///
+/// It starts no thread and never waits, so it always returns. Returns `Memory` if memory runs out.
+pub fn run_alone<G: Gate>(
+    alloc: Global,
+    scenario: &Scenario,
+    rounds: u32,
+    gate: &G,
+) -> Result<AloneRun, Memory>
+    ensures { IfOk result (RunsAlone scenario.now rounds) }
+{
+    let starts = RunStarts::new(alloc, scenario)?;
+    let (pages, seats) = RunPages::lay(alloc, &starts, scenario)?;
+    match turn_tasks(alloc, scenario, rounds, gate, &pages, seats)? {
+        Rounds::AllDone(dones) => {
+            let report = report(alloc, scenario, &starts, pages, dones)?;
+            Ok(AloneRun::Reported(report))
+        }
+        Rounds::WentOn => Ok(AloneRun::WentOn),
+    }
+}
+
+// Turns the tasks of a scenario over its pages in rounds.
+fn turn_tasks<'p, G: Gate>(
+    alloc: Global,
+    scenario: &Scenario,
+    rounds: u32,
+    gate: &G,
+    pages: &'p RunPages,
+    seats: Vec<PageSeats<'p>>,
+) -> Result<Rounds<TaskDone>, Memory>
+    requires laid { AreLaid scenario.now pages.now }
+    requires seats { HasSeats pages.now seats.items }
+    ensures { IfOk result (TurnedTo scenario.now pages.now rounds) }
+{
+    let no_memory = AtomicBool::new(false);
+    let tasks = dealt_tasks(alloc, scenario, &no_memory, pages, seats)?;
+    run_rounds(alloc, tasks, rounds, gate)
+}
+
+// Makes the tasks of a scenario over its pages.
+fn dealt_tasks<'p, 's>(
+    alloc: Global,
+    scenario: &'s Scenario,
+    no_memory: &'s AtomicBool,
+    pages: &'p RunPages,
+    seats: Vec<PageSeats<'p>>,
+) -> Result<Vec<RunTask<'p, 's>>, Memory>
+    requires laid { AreLaid scenario.now pages.now }
+    requires seats { HasSeats pages.now seats.items }
+    ensures { IfOk result (λ tasks. AreDealt scenario.now pages.now tasks.items) }
+{
+    is_scenario(scenario);
+    let dealt = pages.deal(alloc, scenario, seats)?;
+    Ok(tasks(alloc, scenario, no_memory, dealt)?)
 }
 
 // Runs the tasks of a scenario over its pages.
@@ -62,10 +140,8 @@ fn run_tasks<'p, G: Gate, R: Threads + Wait + Sync>(
     requires seats { HasSeats pages.now seats.items }
     ensures { IfOk result (λ dones. AreAnswers scenario.now pages.now (map answer_of dones.items)) }
 {
-    is_scenario(scenario);
-    let dealt = pages.deal(alloc, scenario, seats)?;
     let no_memory = AtomicBool::new(false);
-    let tasks = tasks(alloc, scenario, &no_memory, dealt)?;
+    let tasks = dealt_tasks(alloc, scenario, &no_memory, pages, seats)?;
     run_pool(rt, alloc, tasks, workers, gate)
 }
 

@@ -6,7 +6,7 @@ use crate::late::Late;
 use crate::reports::report_of;
 use run_report::report_text;
 use scenario_file::{Scenario, generate, read};
-use scenario_run::run_scenario;
+use scenario_run::{AloneRun, run_alone, run_scenario};
 use service_gate::{Gate, OpenGate};
 use std::alloc::Global;
 use std::process::Abort;
@@ -147,4 +147,31 @@ fn generated_calls_have_the_services_lines_with_one_worker_and_sixteen(
 ) -> Result<(), Fail> {
     let scenario = generate(rt.alloc(), 7, 200)?;
     check_workers(&rt, &scenario)
+}
+
+/// The rounds in which a generated scenario of four calls or fewer ends, and many more.
+const FEW_ROUNDS: u32 = 1_000;
+
+#[test]
+fn generated_calls_end_in_few_rounds_of_one_thread(rt: HostRuntime) -> Result<(), Fail> {
+    for number in 0..2_000u32 {
+        let scenario = generate(rt.alloc(), number, 1 + number % 4)?;
+        let lines = services_text(rt.alloc(), &scenario)?;
+        match run_alone(rt.alloc(), &scenario, FEW_ROUNDS, &OpenGate)? {
+            AloneRun::Reported(report) => {
+                let text = report_text(rt.alloc(), &report)?;
+                assert!(rt; text == lines, "scenario {number}");
+            }
+            AloneRun::WentOn => assert!(rt; false, "scenario {number} goes on"),
+        }
+    }
+    Ok(())
+}
+
+#[test]
+fn no_round_ends_no_run(rt: HostRuntime) -> Result<(), Fail> {
+    let scenario = generate(rt.alloc(), 7, 1)?;
+    let run = run_alone(rt.alloc(), &scenario, 0, &OpenGate)?;
+    assert!(rt; matches!(run, AloneRun::WentOn));
+    Ok(())
 }
